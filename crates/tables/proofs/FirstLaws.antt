@@ -1,0 +1,64 @@
+-- Laws of `first` and `every`: a loop's start, turn, hit and end, and what an answer says of each row. Assumes nothing.
+use Prim.Native.Nat.{ℕ, zero, suc, _+_, _-_, _<_, _≤_}
+use mathlib.Core.Bool.{Bool, true, false, not, cond}
+use mathlib.Core.Path.{_≡_, refl, sym, ap, _∙_}
+use native.Mathlib.Numerals.{add-one}
+use native.Mathlib.Omega.{arith}
+use native.Mathlib.Decide.{ℕ-discrete}
+use borrow.Author.Tests.{eq-eqb, ne-eqb, lt-ltb, le-ltb, le-leb, lt-leb}
+use Rattle.tables.specs.First.{first, everyFrom, every}
+
+pub left-suc : (n i : ℕ) → i < n → n - i ≡ suc (n - (i + 1))
+left-suc n i h = (let e : n - i ≡ (n - (i + 1)) + 1 = omega arith in e) ∙ add-one _
+
+module _ {A : Type 0} (test : ℕ → Bool) (value : ℕ → A) (other : A) (n i : ℕ) where
+  pub first-hit : i < n → test i ≡ true → first test value other i (n - i) ≡ value i
+  unfolding first
+  first-hit h t = rw (left-suc n i h, t)
+
+  pub first-miss : i < n → test i ≡ false → first test value other i (n - i) ≡ first test value other (i + 1) (n - (i + 1))
+  unfolding first
+  first-miss h t = rw (left-suc n i h, t)
+
+  pub first-end : n ≤ i → first test value other i (n - i) ≡ other
+  unfolding first
+  first-end h = let e : n - i ≡ 0 = omega arith in rw e
+
+pub first-all : {A : Type 0} (test : ℕ → Bool) (value : ℕ → A) (other : A) (n : ℕ) → first test value other 0 (n - 0) ≡ first test value other 0 n
+first-all test value other n = let e : n - 0 ≡ n = omega arith in rw e
+
+-- what a test that was made says of the test in a definition: `search tests`
+pub ruleset tests = (eq-eqb, ne-eqb, lt-ltb, le-ltb, le-leb, lt-leb)
+
+-- ---- a loop that looks for a row that fails: at row i the rows left decide
+
+module _ (test : ℕ → Bool) (n : ℕ) where
+  pub every-start : everyFrom test 0 (n - 0) ≡ every test n
+  unfolding every
+  every-start = first-all _ _ _ n
+
+  module _ (i : ℕ) (inv : everyFrom test i (n - i) ≡ every test n) where
+    pub every-stop : i < n → test i ≡ false → false ≡ every test n
+    every-stop h t = sym (first-hit _ _ _ n i h (ap not t)) ∙ inv
+
+    pub every-turn : i < n → test i ≡ true → everyFrom test (i + 1) (n - (i + 1)) ≡ every test n
+    every-turn h t = sym (first-miss _ _ _ n i h (ap not t)) ∙ inv
+
+    pub every-end : n ≤ i → true ≡ every test n
+    every-end h = sym (first-end _ _ _ n i h) ∙ inv
+
+-- a search for the first row that fails met none: each row passes
+from-every : (test : ℕ → Bool) (n i : ℕ) → everyFrom test i n ≡ true → (k : ℕ) → i ≤ k → k < i + n → test k ≡ true
+unfolding first
+from-every test zero i e k l h = absurd (omega arith)
+from-every test (suc n) i e k l h = at (test i) refl e (ℕ-discrete k i) (λ z l h. from-every test n (i + 1) z k l h)
+  where
+    at : (t : Bool) → test i ≡ t → cond (not t) false (everyFrom test (i + 1) n) ≡ true → Dec (k ≡ i)
+        → (everyFrom test (i + 1) n ≡ true → i + 1 ≤ k → k < i + 1 + n → test k ≡ true) → test k ≡ true
+    at true q z (yes s) ih = rw s q
+    at true q z (no ne) ih = ih z (omega arith) (omega arith)
+    at false q z d ih = let w : _≡_ {A = ℕ} 0 1 = cc in absurd (omega arith)
+
+pub every-row : (test : ℕ → Bool) (n : ℕ) → every test n ≡ true → (k : ℕ) → k < n → test k ≡ true
+unfolding every
+every-row test n e k h = from-every test n 0 e k (omega arith) (omega arith)

@@ -1,0 +1,8 @@
+-- Laws that the proofs share, here and in the crates above.
+pub mod Index
+pub mod Cases
+pub mod FirstLaws
+pub mod TreeLaws
+pub mod LookupLaws
+pub mod CellsLaws
+pub mod Loaded

@@ -1,0 +1,12 @@
+pub mod Refusal
+pub mod Outcome
+pub mod First
+pub mod Tables
+pub mod Rows
+pub mod Lookup
+pub mod Tree
+pub mod Shape
+pub mod Allowed
+pub mod Instruction
+pub mod Cells
+pub mod Load

@@ -1,0 +1,125 @@
+// Refusal 2, of the instructions: the words that each family allows.
+ghost use mathlib.Core.Path.{_≡_};
+ghost use Rattle.tables.specs.Instruction.{operatorsOf, operandsAllowed, instructionAllowed, instructionsAllowed, formAllowed, sourceAllowed};
+use crate::rows::INSTRUCTION_WIDTH;
+use crate::rows::Instruction;
+
+// Families by number.
+pub const ARITHMETIC: u64 = 0;
+
+pub const COMPARISON: u64 = 1;
+
+pub const BINARY_LOGIC: u64 = 2;
+
+pub const UNARY: u64 = 3;
+
+pub const MOVE: u64 = 4;
+
+pub const EXCHANGE: u64 = 5;
+
+pub const LOAD: u64 = 6;
+
+pub const STORE: u64 = 7;
+
+pub const FRAME: u64 = 8;
+
+pub const CALL: u64 = 9;
+
+pub const OTHER: u64 = 10;
+
+// How many operators a family has; 1 where the word is unused.
+fn operator_count(family: u64) -> u64
+    ensures { λ r. ⌜ r ≡ operatorsOf family ⌝ }
+{
+    match family {
+        0 => 4,
+        1 => 5,
+        2 => 6,
+        3 => 2,
+        4 => 1,
+        5 => 1,
+        6 => 1,
+        7 => 1,
+        8 => 5,
+        9 => 1,
+        10 => 2,
+        _ => 0,
+    }
+}
+
+fn form_allowed(family: u64, form: u64) -> bool
+    ensures { λ r. ⌜ r ≡ formAllowed family form ⌝ }
+{
+    match family {
+        0 => form < 3,
+        1 => form < 3,
+        2 => (form == 0) | (form == 2),
+        3 => form == 3,
+        4 => form < 3,
+        5 => form == 3,
+        6 => form == 2,
+        7 => form < 3,
+        _ => form == 3,
+    }
+}
+
+fn source_allowed(x: Instruction) -> bool
+    ensures { λ r. ⌜ r ≡ sourceAllowed x ⌝ }
+{
+    let form = x.source_form;
+    match form {
+        0 => x.source_second == 0,
+        1 => x.source_second == 0,
+        2 => true,
+        3 => (x.source_first == 0) & (x.source_second == 0),
+        _ => false,
+    }
+}
+
+// `arguments` is the number of argument rows.
+fn operands_allowed(nodes: &[u64], arguments: usize, x: Instruction) -> bool
+    ensures { λ r. ⌜ r ≡ operandsAllowed (now (nodes .entry)) arguments x ⌝ }
+{
+    let family = x.family;
+    let second_unused = (x.second_name == 0) & (x.second_index == 0);
+    match family {
+        0 => second_unused,
+        1 => true,
+        2 => second_unused,
+        3 => second_unused,
+        4 => second_unused,
+        5 => true,
+        6 => x.second_index == 0,
+        7 => x.first_index == 0,
+        8 => second_unused & crate::tree::one_tree(nodes, x.first_name, x.first_index),
+        9 => {
+            (x.second_index == 0)
+                & crate::tree::range_inside(x.first_index, x.second_name, arguments)
+        }
+        10 => (x.first_name == 0) & ((x.first_index == 0) & second_unused),
+        _ => false,
+    }
+}
+
+fn instruction_allowed(nodes: &[u64], arguments: usize, x: Instruction) -> bool
+    ensures { λ r. ⌜ r ≡ instructionAllowed (now (nodes .entry)) arguments x ⌝ }
+{
+    (x.operator < operator_count(x.family))
+        & (form_allowed(x.family, x.source_form)
+            & (source_allowed(x) & operands_allowed(nodes, arguments, x)))
+}
+
+pub fn instructions_allowed(instructions: &[u64], nodes: &[u64], arguments: usize) -> bool
+    ensures { λ r. ⌜ r ≡ instructionsAllowed (now (nodes .entry)) arguments (now (instructions .entry)) ⌝ }
+{
+    let rows = instructions.len() / INSTRUCTION_WIDTH;
+    let mut i = 0;
+    while i < rows {
+        let x = crate::rows::instruction_at(instructions, i);
+        if !instruction_allowed(nodes, arguments, x) {
+            return false;
+        }
+        i += 1;
+    }
+    true
+}

@@ -1,0 +1,10 @@
+-- Laws that the proofs share.
+pub mod Signs
+pub mod Wraps
+pub mod Halves
+pub mod Quotients
+pub mod Order
+pub mod Nan
+pub mod Size
+pub mod Widths
+pub mod Shifts
