@@ -179,3 +179,10 @@ module _ {t : Tables} (l : Loaded t) where
   call-arguments r h f =
       let x = R.instructionAt (t .instructions) r in
       inside-le _ _ _ (both (eqb (x .«second_index») 0) _ (rw f at (operands r h)) .1)
+
+  pub frame-inside : (r : ℕ) → r < R.instructionRows (t .instructions) → R.instructionAt (t .instructions) r .family ≡ 8
+      → R.instructionAt (t .instructions) r .«first_name» + R.instructionAt (t .instructions) r .«first_index» ≤ R.nodeRows (t .nodes)
+  unfolding oneTree
+  frame-inside r h f =
+      let x = R.instructionAt (t .instructions) r in
+      inside-le _ _ _ (both (inside (x .«first_name») (x .«first_index») (R.nodeRows (t .nodes))) _ (frame-tree r h f) .0)
