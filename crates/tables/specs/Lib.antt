@@ -10,3 +10,4 @@ pub mod Allowed
 pub mod Instruction
 pub mod Cells
 pub mod Load
+pub mod Bench

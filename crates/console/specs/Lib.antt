@@ -1,0 +1,5 @@
+pub mod Answer
+pub mod Check
+pub mod Resolve
+pub mod Access
+pub mod References

@@ -1,0 +1,23 @@
+-- 01, Order: "Walk (nodes alone; the rest take every table): 1, 2."
+use Prim.Native.Nat.{ℕ}
+use mathlib.Core.List.{List, [], _∷_}
+use Rattle.tables.specs.Load.{loadNodesOf}
+use Rattle.memory.specs.References.{nextIn}
+use Rattle.memory.specs.declared.Next.{Next}
+use Rattle.memory.specs.declared.Next.the-variants.{Reference, End}
+use Rattle.console.specs.Answer.{after}
+use Rattle.console.specs.declared.references.WalkAnswer.{WalkAnswer}
+use Rattle.console.specs.declared.references.WalkAnswer.the-variants.{Refused, Went}
+
+unfoldable pub referencesTable : List ℕ → ℕ → ℕ → ℕ → WalkAnswer
+referencesTable nodes first count place = after (loadNodesOf nodes first count) Refused (Went (nextIn nodes first count place))
+
+-- the answer's cases: 0 or the refusal's number
+abbrev pub walkNumber : WalkAnswer → ℕ
+walkNumber (Refused number) = number
+walkNumber (Went s) = 0
+
+-- what was found: 1, name, index; or 0, 0, 0 at the end
+abbrev pub foundWords : Next → List ℕ
+foundWords (Reference r) = 1 ∷ r .name ∷ r .index ∷ []
+foundWords End = 0 ∷ 0 ∷ 0 ∷ []

@@ -1,0 +1,41 @@
+// The read and write sets of one CALL.
+ghost use mathlib.Core.Path.{_≡_};
+ghost use Rattle.tables.specs.Tables.{tablesOf};
+ghost use Rattle.extern_call.specs.Access.{accessAnswer};
+ghost use Rattle.console.specs.Access.{accessTables};
+use extern_call::access::AccessAnswer;
+use extern_call::access::access_call;
+use tables::instruction::CALL;
+use tables::load::Load;
+use tables::load::load_row;
+use tables::rows::instruction_at;
+
+pub fn access(
+    regions: &[u64],
+    externs: &[u64],
+    parameters: &[u64],
+    nodes: &[u64],
+    arguments: &[u64],
+    instructions: &[u64],
+    row: usize,
+    reads: &mut [u64],
+    writes: &mut [u64],
+) -> AccessAnswer
+    ensures { λ r. ⌜ accessAnswer r (now (reads .exit)) (now (writes .exit)) ≡ accessTables (tablesOf (now (regions .entry)) (now (externs .entry)) (now (parameters .entry)) (now (nodes .entry)) (now (arguments .entry)) (now (instructions .entry))) row (now (reads .entry)) (now (writes .entry)) ⌝ }
+{
+    let loaded = load_row(
+        regions,
+        externs,
+        parameters,
+        nodes,
+        arguments,
+        instructions,
+        row,
+        CALL,
+    );
+    if let Load::Refused(number) = loaded {
+        return AccessAnswer::Refused(number);
+    }
+    let x = instruction_at(instructions, row);
+    access_call(externs, parameters, arguments, x, reads, writes)
+}

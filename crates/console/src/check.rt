@@ -1,0 +1,42 @@
+// The type check of a program.
+ghost use mathlib.Core.Path.{_≡_};
+ghost use Rattle.tables.specs.Tables.{tablesOf};
+ghost use Rattle.console.specs.Check.{verdictAnswer, checkTables};
+use tables::load::Load;
+use tables::load::load_tables;
+use type_check::error::TypeError;
+use type_check::error::Verdict;
+use type_check::program::check_program;
+
+// Accepted, a refusal by its number, or 5 with the first type error.
+pub enum CheckAnswer {
+    Accepted,
+    Refused(u64),
+    Error(TypeError),
+}
+
+fn verdict_answer(verdict: Verdict) -> CheckAnswer
+    ensures { λ r. ⌜ r ≡ verdictAnswer verdict ⌝ }
+{
+    match verdict {
+        Verdict::Accepted => CheckAnswer::Accepted,
+        Verdict::Error(error) => CheckAnswer::Error(error),
+    }
+}
+
+pub fn check(
+    regions: &[u64],
+    externs: &[u64],
+    parameters: &[u64],
+    nodes: &[u64],
+    arguments: &[u64],
+    instructions: &[u64],
+) -> CheckAnswer
+    ensures { λ r. ⌜ r ≡ checkTables (tablesOf (now (regions .entry)) (now (externs .entry)) (now (parameters .entry)) (now (nodes .entry)) (now (arguments .entry)) (now (instructions .entry))) ⌝ }
+{
+    let loaded = load_tables(regions, externs, parameters, nodes, arguments, instructions);
+    if let Load::Refused(number) = loaded {
+        return CheckAnswer::Refused(number);
+    }
+    verdict_answer(check_program(regions, nodes, instructions))
+}

@@ -1,0 +1,5 @@
+// The public calls on lent tables: no call asks anything of its caller, and each gives its answer and every lent word by one equation.
+pub mod access;
+pub mod check;
+pub mod references;
+pub mod resolve;

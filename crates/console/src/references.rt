@@ -1,0 +1,24 @@
+// The references of one expression, one call at a time.
+ghost use mathlib.Core.Path.{_≡_};
+ghost use Rattle.console.specs.References.{referencesTable};
+use memory::Stepped;
+use memory::next_in;
+use tables::load::Load;
+use tables::load::load_nodes;
+
+// A refusal by its number, or what the walk hands out with the place to go on from.
+pub enum WalkAnswer {
+    Refused(u64),
+    Went(Stepped),
+}
+
+// The next reference of the tree of `count` nodes from `first` on, of which `place` nodes were passed.
+pub fn memory_references(nodes: &[u64], first: u64, count: u64, place: usize) -> WalkAnswer
+    ensures { λ r. ⌜ r ≡ referencesTable (now (nodes .entry)) first count place ⌝ }
+{
+    let loaded = load_nodes(nodes, first, count);
+    if let Load::Refused(number) = loaded {
+        return WalkAnswer::Refused(number);
+    }
+    WalkAnswer::Went(next_in(nodes, first, count, place))
+}

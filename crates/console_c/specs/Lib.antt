@@ -1,0 +1,4 @@
+pub mod Check
+pub mod Resolve
+pub mod Access
+pub mod Reference

@@ -1,0 +1,5 @@
+// The public calls for C, as console.h declares them. Each returns 0 or the refusal's number, and writes an out-array only where the header says so.
+pub mod access;
+pub mod check;
+pub mod reference;
+pub mod resolve;

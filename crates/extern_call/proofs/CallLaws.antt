@@ -1,0 +1,68 @@
+-- Which rows a CALL's arguments and their parameters are. Assumes nothing.
+use Prim.Native.Nat.{ℕ, _+_, _-_, _<_}
+use mathlib.Core.Path.{_≡_, refl}
+use mathlib.Core.Bool.{Bool, true, false, cond}
+use mathlib.Core.List.{List}
+use native.Mathlib.Omega.{arith}
+use borrow.Author.Tests.{eqb-false, ltb-true, ltb-false}
+use lib.Dec.{eqb, ltb}
+use Rattle.tables.specs.Outcome.{ok, _>>=_}
+use Rattle.tables.specs.Rows.{externAt}
+use Rattle.tables.specs.Lookup.{lookupExtern}
+use Rattle.tables.specs.declared.lookup.Found.{Found}
+use Rattle.tables.specs.declared.lookup.Found.the-variants.{At, Nothing}
+use Rattle.tables.specs.declared.rows.Instruction.{Instruction}
+use Rattle.tables.proofs.LookupLaws.{lookup-within}
+use Rattle.extern_call.specs.Call.{callOf, foundExtern, findCall, arityOf, placeOf, CallRanges, Ranges, Counted, Paired}
+use Rattle.extern_call.specs.Access.{lowerOf, pairedCount}
+use Rattle.extern_call.specs.declared.call.Call.{Call}
+use Rattle.extern_call.specs.declared.call.Place.the-variants.{Return, Parameter}
+
+-- the extern of a CALL that is found
+pub record CallAt (externs : List ℕ) (x : Instruction) (call : Call) : Type 0 where
+  pub row : ℕ
+  pub named : lookupExtern externs (x .«first_name») ≡ At row
+  pub signature : callOf (externAt externs row) x ≡ call
+
+call-by : (externs : List ℕ) (x : Instruction) (f : Found) (call : Call) → lookupExtern externs (x .«first_name») ≡ f
+    → (foundExtern f >>= (λ row. ok (callOf (externAt externs row) x))) ≡ ok call → CallAt externs x call
+unfolding _>>=_
+call-by externs x (At row) call e h = record { row = row; named = e; signature = cc }
+call-by externs x Nothing call e h = let z : _≡_ {A = ℕ} 0 1 = cc in absurd (omega arith)
+
+pub call-at : (externs : List ℕ) (x : Instruction) (call : Call) → findCall externs x ≡ ok call → CallAt externs x call
+unfolding findCall
+call-at externs x call e = call-by externs x (lookupExtern externs (x .«first_name»)) call refl e
+
+-- its arguments and parameters lie in their tables
+pub call-ranges : {externs parameters arguments : List ℕ} {x : Instruction} {call : Call} → CallRanges externs parameters arguments x
+    → findCall externs x ≡ ok call → Ranges parameters arguments call
+call-ranges {externs} {parameters} {arguments} {x} {call} r e =
+    let c = call-at externs x call e in
+    rw (← c .signature)
+    (record { argumentRange = r .argumentRange; parameterRange = r .parameterRange (c .row) (lookup-within 4 externs (x .«first_name») (c .row) (c .named)) })
+
+place-below : (b₁ b₂ : Bool) (i k n : ℕ) → eqb i 0 ≡ b₂ → i < cond b₁ n (n + 1)
+    → cond b₁ (Parameter i) (cond b₂ Return (Parameter (i - 1))) ≡ Parameter k → k < n
+place-below true b₂ i k n e h p = let q : i ≡ k = cc in omega arith
+place-below false true i k n e h p = let z : _≡_ {A = ℕ} 0 1 = cc in absurd (omega arith)
+place-below false false i k n e h p = let q : i - 1 ≡ k = cc in omega (arith, eqb-false i 0 e)
+
+-- the parameter of an argument that has one
+pub place-within : (call : Call) (i k : ℕ) → i < arityOf call → placeOf call i ≡ Parameter k → k < call .«parameter_count»
+unfolding arityOf placeOf
+place-within call i k h p = place-below (eqb (call .«return_kind») 4) (eqb i 0) i k (call .«parameter_count») refl h p
+
+pub counted-paired : {parameters arguments : List ℕ} {call : Call} (i : ℕ) → Counted parameters arguments call → i < call .«argument_count» → Paired parameters arguments call i
+counted-paired i c h = record { ranges = c .ranges; argument = h; wanted = rw (c .count) at h }
+
+lower-below : (b : Bool) (i x y : ℕ) → ltb x y ≡ b → i < cond b x y → (i < x) × (i < y)
+lower-below true i x y e h = (h, omega (arith, ltb-true x y e))
+lower-below false i x y e h = (omega (arith, ltb-false x y e), h)
+
+pub paired-below : (call : Call) (i : ℕ) → i < pairedCount call → (i < call .«argument_count») × (i < arityOf call)
+unfolding pairedCount lowerOf
+paired-below call i h = lower-below (ltb (call .«argument_count») (arityOf call)) i (call .«argument_count») (arityOf call) refl h
+
+pub ranges-paired : {parameters arguments : List ℕ} {call : Call} (i : ℕ) → Ranges parameters arguments call → i < pairedCount call → Paired parameters arguments call i
+ranges-paired {call = call} i r h = let b = paired-below call i h in record { ranges = r; argument = b .0; wanted = b .1 }

@@ -1,0 +1,8 @@
+-- Laws that the proofs share, here and in the crates above.
+pub mod GatherLaws
+pub mod RowLaws
+pub mod CallLaws
+pub mod InsertLaws
+pub mod SetLaws
+pub mod ResolvedLaws
+pub mod ResolvesLaws

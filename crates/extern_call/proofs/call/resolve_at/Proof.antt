@@ -1,0 +1,66 @@
+use mathlib.Core.Path.{sym, _∙_}
+use native.Mathlib.Omega.{arith}
+use Rattle.extern_call.specs.Call.{resolutionAt}
+use Rattle.extern_call.proofs.CallLaws.{place-within}
+use borrow.Author.Needs.{needs}
+use Rattle.extern_call.proofs.call.resolve_at.Statement.{statement}
+use Rattle.extern_call.proofs.call.resolve_at.Tie as tie
+
+add-argument-at : tie.Need-add-argument-at
+add-argument-at c = search needs
+
+argument-at-requires : tie.Need-argument-at-requires
+argument-at-requires c κs = search needs
+
+place-of-requires : tie.Need-place-of-requires
+place-of-requires c κs = search needs
+
+enum-told : tie.Need-enum-told
+enum-told c = search needs
+
+resolve-return-requires : tie.Need-resolve-return-requires
+resolve-return-requires c κs = search needs
+
+of-return-requires : tie.Need-of-return-requires
+of-return-requires c κs = search needs
+
+enum-known-place : tie.Need-enum-known-place
+enum-known-place c = search needs
+
+add-parameter-at : tie.Need-add-parameter-at
+add-parameter-at c = record { fits = omega (arith, place-within _ _ _ (c .before .before .before .before .before .before .before .before .before .before .pre .wanted) (sym (c .before .before .before .before .place-of .ensures) ∙ c .before .before .place .given .1)) }
+
+parameter-at-requires : tie.Need-parameter-at-requires
+parameter-at-requires c κs = omega (arith, place-within _ _ _ (c .before .before .before .before .before .before .before .before .before .before .pre .wanted) (sym (c .before .before .before .before .place-of .ensures) ∙ c .before .before .place .given .1))
+
+resolve-argument-requires : tie.Need-resolve-argument-requires
+resolve-argument-requires c κs = search needs
+
+of-parameter-requires : tie.Need-of-parameter-requires
+of-parameter-requires c κs = search needs
+
+returns : tie.Need-returns
+unfolding resolutionAt
+returns c = rw (sym (c .before .before .before .before .place-of .ensures) ∙ c .before .before .enum-told .given .1, ← c .before .before .before .before .before .argument-at .ensures, ← c .before .resolve-return .ensures) (c .of-return .ensures)
+
+returns-2 : tie.Need-returns-2
+unfolding resolutionAt
+returns-2 c = rw (sym (c .before .before .before .before .before .before .before .place-of .ensures) ∙ c .before .before .before .before .before .place .given .1, ← c .before .before .before .before .before .before .before .before .argument-at .ensures, ← c .before .before .parameter-at .ensures, ← c .before .resolve-argument .ensures) (c .of-parameter .ensures)
+
+pub resolve-at-spec : {M : Type 1} → statement M
+resolve-at-spec =
+    tie.close
+    (tie.spec
+    add-argument-at
+    argument-at-requires
+    place-of-requires
+    enum-told
+    resolve-return-requires
+    of-return-requires
+    enum-known-place
+    add-parameter-at
+    parameter-at-requires
+    resolve-argument-requires
+    of-parameter-requires
+    returns
+    returns-2)

@@ -1,0 +1,10 @@
+pub mod Argument
+pub mod Vectors
+pub mod Errors
+pub mod Resolved
+pub mod Resolve
+pub mod Gather
+pub mod Call
+pub mod Rows
+pub mod Access
+pub mod Bench

@@ -1,0 +1,80 @@
+-- A CALL resolved into lent rows. 01, Order: "Resolve: 1, 2, 3, 6, 7, 4 (7 words an argument), 8."
+use Prim.Native.Nat.{ℕ, _+_, _*_}
+use mathlib.Core.Path.{_≡_}
+use mathlib.Core.Bool.{cond}
+use mathlib.Core.List.{List, [], _∷_}
+use lib.Dec.{leb}
+use lib.ListN.{length}
+use lib.Seq.{sets}
+use Rattle.tables.specs.Refusal.{bufferSize, argumentCount, argumentErrors}
+use Rattle.tables.specs.Outcome.{Outcome, ok, refuse, _>>=_, _>>_, need}
+use Rattle.tables.specs.declared.rows.Instruction.{Instruction}
+use Rattle.extern_call.specs.Errors.{errorRow}
+use Rattle.extern_call.specs.Resolved.{resolvedRow}
+use Rattle.extern_call.specs.Gather.{gather, flat}
+use Rattle.extern_call.specs.Call.{findCall, isCounted, resolutionAt, allResolve}
+use Rattle.extern_call.specs.declared.error.CallArgumentError.{CallArgumentError}
+use Rattle.extern_call.specs.declared.resolved.ResolvedCallArgument.{ResolvedCallArgument}
+use Rattle.extern_call.specs.declared.call.Call.{Call}
+use Rattle.extern_call.specs.declared.call.CallResolution.{CallResolution}
+use Rattle.extern_call.specs.declared.call.CallResolution.the-variants.{Resolved, Failed}
+use Rattle.extern_call.specs.declared.rows.ResolveAnswer.{ResolveAnswer}
+use Rattle.extern_call.specs.declared.rows.ResolveAnswer.the-variants as A
+
+abbrev pub errorIn : CallResolution → List CallArgumentError
+errorIn (Resolved a) = []
+errorIn (Failed e) = e ∷ []
+
+abbrev pub resolvedIn : CallResolution → List ResolvedCallArgument
+resolvedIn (Resolved a) = a ∷ []
+resolvedIn (Failed e) = []
+
+-- the ordered list of a CALL's errors
+unfoldable pub errorsOf : List ℕ → List ℕ → List ℕ → Call → List CallArgumentError
+errorsOf regions parameters arguments call =
+    gather (λ i. errorIn (resolutionAt regions parameters arguments call i)) 0 (call .«argument_count»)
+
+-- its resolved arguments, in order
+unfoldable pub resolvedOf : List ℕ → List ℕ → List ℕ → Call → List ResolvedCallArgument
+resolvedOf regions parameters arguments call =
+    gather (λ i. resolvedIn (resolutionAt regions parameters arguments call i)) 0 (call .«argument_count»)
+
+-- the items' rows stand in a lent list after `count` rows of that width, and n rows stand there then; nothing else has changed
+pub record Stored {A : Type 0} (row : A → List ℕ) (width count : ℕ) (items : List A) (entry exit : List ℕ) (n : ℕ) : Type 0 where
+  pub total : n ≡ count + length items
+  pub words : exit ≡ sets entry (count * width) (flat row items)
+
+-- what resolve gives: 0 or the refusal's number, how many rows it wrote, and the lent rows at exit
+pub record Resolve : Type 0 where
+  pub number : ℕ
+  pub count : ℕ
+  pub rows : List ℕ
+
+abbrev pub resolve : ℕ → ℕ → List ℕ → Resolve
+resolve number count rows = record { number = number; count = count; rows = rows }
+
+-- the answer's cases
+abbrev pub resolveAnswer : ResolveAnswer → List ℕ → Resolve
+resolveAnswer (A.Refused number) rows = resolve number 0 rows
+resolveAnswer (A.Errors count) rows = resolve argumentErrors count rows
+resolveAnswer (A.Resolved count) rows = resolve 0 count rows
+
+-- "It writes nothing, but 8 in resolve writes its error rows and returns their count."
+abbrev pub orRefused : List ℕ → Outcome Resolve → Resolve
+orRefused rows (ok r) = r
+orRefused rows (refuse number) = resolve number 0 rows
+
+-- the items' rows from word 0 on, and their count
+abbrev pub withRows : {A : Type 0} → ℕ → (A → List ℕ) → List A → List ℕ → Resolve
+withRows number row items rows = resolve number (length items) (sets rows 0 (flat row items))
+
+-- 6, 7, 4, then 8 with the rows of all errors, or the resolved rows
+unfoldable pub resolveCall : List ℕ → List ℕ → List ℕ → List ℕ → Instruction → List ℕ → Resolve
+resolveCall regions externs parameters arguments x rows = orRefused rows (do
+  call ← findCall externs x
+  need (isCounted call) argumentCount
+  need (leb (7 * call .«argument_count») (length rows)) bufferSize
+  ok
+      (cond (allResolve regions parameters arguments call)
+      (withRows 0 resolvedRow (resolvedOf regions parameters arguments call) rows)
+      (withRows argumentErrors errorRow (errorsOf regions parameters arguments call) rows)))

@@ -1,0 +1,189 @@
+// The access sets of a CALL: the names that it reads and those that it writes, ascending, in lent lists.
+ghost use mathlib.Core.Path.{_≡_};
+ghost use Prim.Native.Nat.{_+_, _^_, _≤_, _<_};
+ghost use lib.ListN.{length, take};
+ghost use Rattle.tables.specs.Rows.{parameterRows};
+ghost use Rattle.extern_call.specs.Call.{arityOf, Ranges, Paired, CallRanges};
+ghost use Rattle.extern_call.specs.Access.{lowerOf, upperOf, inserted, insertAll, Listed, namesIn, writtenAt, listedAt, namesAt, pairedCount, accessOf, accessAnswer, accessCall};
+use crate::argument::UnresolvedCallArgument;
+use crate::argument::decode;
+use crate::call::Call;
+use crate::call::FoundCall;
+use crate::call::Place;
+use crate::call::arity;
+use crate::call::find_call;
+use crate::call::place_of;
+use tables::refusal::BUFFER_SIZE;
+use tables::refusal::EXTERN_NOT_FOUND;
+use tables::rows::Argument;
+use tables::rows::Instruction;
+use tables::rows::argument_at;
+use tables::rows::parameter_at;
+
+// Which of the two sets.
+pub enum Access {
+    Read,
+    Write,
+}
+
+pub enum AccessAnswer {
+    Refused(u64),
+    Sets(usize, usize),
+}
+
+fn lower(x: u64, y: u64) -> u64
+    ensures { λ r. ⌜ r ≡ lowerOf x y ⌝ }
+{
+    if x < y {
+        return x;
+    }
+    y
+}
+
+fn upper(x: u64, y: u64) -> u64
+    ensures { λ r. ⌜ r ≡ upperOf x y ⌝ }
+{
+    if x < y {
+        return y;
+    }
+    x
+}
+
+// A name among the first `count`, which ascend: the lower of two stays, the upper goes on. The new count.
+fn insert(names: &mut [u64], count: usize, name: u64) -> usize
+    requires { ⌜ count < length (now names) ⌝ }
+    ensures { λ r. ⌜ Listed (inserted name (take count (now (names .entry)))) (now (names .entry)) (now (names .exit)) r ⌝ }
+{
+    let mut carry = name;
+    let mut i = 0;
+    while i < count {
+        let here = names[i];
+        if carry == here {
+            return count;
+        }
+        names[i] = lower(carry, here);
+        carry = upper(carry, here);
+        i += 1;
+    }
+    names[count] = carry;
+    count + 1
+}
+
+// The name of an identifier or a reference. The new count.
+fn insert_name(names: &mut [u64], count: usize, row: Argument) -> usize
+    requires { ⌜ count < length (now names) ⌝ }
+    ensures { λ r. ⌜ Listed (insertAll (take count (now (names .entry))) (namesIn row)) (now (names .entry)) (now (names .exit)) r ⌝ }
+{
+    let argument = decode(row);
+    match argument {
+        UnresolvedCallArgument::Identifier(name) => insert(names, count, name),
+        UnresolvedCallArgument::Reference(name, _) => insert(names, count, name),
+        UnresolvedCallArgument::Immediate(_, _) => count,
+    }
+}
+
+// Whether argument i is the return's or a mutable parameter's.
+fn is_written(parameters: &[u64], call: Call, i: usize) -> bool
+    requires { ⌜ (call .«first_parameter» + call .«parameter_count» ≤ parameterRows (now parameters)) × (i < arityOf call) ⌝ }
+    ensures { λ r. ⌜ r ≡ writtenAt (now (parameters .entry)) call i ⌝ }
+{
+    let place = place_of(call, i);
+    match place {
+        Place::Return => true,
+        Place::Parameter(k) => {
+            let p = parameter_at(parameters, call.first_parameter + k);
+            p.mutable != 0
+        }
+    }
+}
+
+// Whether argument i is listed in that set.
+fn is_listed(parameters: &[u64], call: Call, i: usize, access: Access) -> bool
+    requires { ⌜ (call .«first_parameter» + call .«parameter_count» ≤ parameterRows (now parameters)) × (i < arityOf call) ⌝ }
+    ensures { λ r. ⌜ r ≡ listedAt (now (parameters .entry)) call access i ⌝ }
+{
+    match access {
+        Access::Read => true,
+        Access::Write => is_written(parameters, call, i),
+    }
+}
+
+// Argument i's name, where it is listed. The new count.
+fn visit(
+    parameters: &[u64],
+    arguments: &[u64],
+    call: Call,
+    i: usize,
+    access: Access,
+    names: &mut [u64],
+    count: usize,
+) -> usize
+    requires { ⌜ Paired (now parameters) (now arguments) call i × (count < length (now names)) ⌝ }
+    ensures { λ r. ⌜ Listed (insertAll (take count (now (names .entry))) (namesAt (now (parameters .entry)) (now (arguments .entry)) call access i)) (now (names .entry)) (now (names .exit)) r ⌝ }
+{
+    if is_listed(parameters, call, i, access) {
+        let row = argument_at(arguments, call.first_argument + i);
+        return insert_name(names, count, row);
+    }
+    count
+}
+
+// How many arguments are the return's or a parameter's.
+fn paired_count(call: Call) -> usize
+    requires { ⌜ call .«parameter_count» + 1 < 2 ^ 64 ⌝ }
+    ensures { λ r. ⌜ r ≡ pairedCount call ⌝ }
+{
+    let count = call.argument_count;
+    let wanted = arity(call);
+    if count < wanted {
+        return count;
+    }
+    wanted
+}
+
+// The names of one set, ascending; how many.
+fn collect(
+    parameters: &[u64],
+    arguments: &[u64],
+    call: Call,
+    access: Access,
+    names: &mut [u64],
+) -> usize
+    requires { ⌜ Ranges (now parameters) (now arguments) call × (call .«argument_count» ≤ length (now names)) ⌝ }
+    ensures { λ r. ⌜ Listed (accessOf (now (parameters .entry)) (now (arguments .entry)) call access) (now (names .entry)) (now (names .exit)) r ⌝ }
+{
+    let n = paired_count(call);
+    let mut count = 0;
+    let mut i = 0;
+    while i < n {
+        count = visit(parameters, arguments, call, i, access, names, count);
+        i += 1;
+    }
+    count
+}
+
+// The CALL's read and write sets; else 6 or 4.
+pub fn access_call(
+    externs: &[u64],
+    parameters: &[u64],
+    arguments: &[u64],
+    x: Instruction,
+    reads: &mut [u64],
+    writes: &mut [u64],
+) -> AccessAnswer
+    requires { ⌜ CallRanges (now externs) (now parameters) (now arguments) x ⌝ }
+    ensures { λ r. ⌜ accessAnswer r (now (reads .exit)) (now (writes .exit)) ≡ accessCall (now (externs .entry)) (now (parameters .entry)) (now (arguments .entry)) x (now (reads .entry)) (now (writes .entry)) ⌝ }
+{
+    let FoundCall::At(call) = find_call(externs, x) else {
+        return AccessAnswer::Refused(EXTERN_NOT_FOUND);
+    };
+    if reads.len() < call.argument_count {
+        return AccessAnswer::Refused(BUFFER_SIZE);
+    }
+    if writes.len() < call.argument_count {
+        return AccessAnswer::Refused(BUFFER_SIZE);
+    }
+    let read = collect(parameters, arguments, call, Access::Read, reads);
+    let written = collect(parameters, arguments, call, Access::Write, writes);
+    AccessAnswer::Sets(read, written)
+}

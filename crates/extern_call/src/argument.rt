@@ -1,0 +1,27 @@
+// An argument as it is written in the CALL.
+ghost use mathlib.Core.Path.{_≡_};
+ghost use Rattle.extern_call.specs.Argument.{argumentOf};
+use tables::rows::Argument;
+use words::real;
+
+// A parsed, but unresolved argument.
+pub enum UnresolvedCallArgument {
+    Identifier(u64),
+    Reference(u64, u64),
+    Immediate(f64, f64),
+}
+
+// The row's words still travel beside the decoded argument: a NaN's payload is in them alone.
+pub fn decode(row: Argument) -> UnresolvedCallArgument
+    ensures { λ r. ⌜ r ≡ argumentOf row ⌝ }
+{
+    let form = row.form;
+    match form {
+        0 => UnresolvedCallArgument::Identifier(row.first),
+        1 => UnresolvedCallArgument::Reference(row.first, row.second),
+        _ => UnresolvedCallArgument::Immediate(
+            real::value_of(row.first),
+            real::value_of(row.second),
+        ),
+    }
+}

@@ -1,0 +1,17 @@
+// A vector's type.
+ghost use mathlib.Core.Path.{_≡_};
+ghost use Rattle.extern_call.specs.Vectors.{sameVector};
+
+pub struct Vector {
+    pub kind: u64,
+    pub length: u64,
+}
+
+pub fn same_vector(v: Vector, w: Vector) -> bool
+    ensures { λ r. ⌜ r ≡ sameVector v w ⌝ }
+{
+    if v.kind == w.kind {
+        return v.length == w.length;
+    }
+    false
+}

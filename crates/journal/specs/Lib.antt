@@ -1,0 +1,5 @@
+pub mod Each
+pub mod Position
+pub mod Cells
+pub mod Entries
+pub mod Restore

@@ -1,0 +1,34 @@
+// A place in a session.
+ghost use mathlib.Core.Path.{_≡_};
+ghost use Prim.Native.Nat.{_+_, _^_, _<_};
+ghost use Rattle.journal.specs.Position.{advanced, retreated};
+
+// The instructions done, and the journal entries used.
+pub struct Position {
+    pub done: usize,
+    pub used: usize,
+}
+
+impl Position {
+    // The position after a step with so many changes.
+    pub fn advance(self, changes: usize) -> Position
+        requires { ⌜ (self .done + 1 < 2 ^ 64) × (self .used + (changes + 1) < 2 ^ 64) ⌝ }
+        ensures { λ r. ⌜ r ≡ advanced self changes ⌝ }
+    {
+        Position {
+            done: self.done + 1,
+            used: self.used + (changes + 1),
+        }
+    }
+
+    // The position before the last step, whose closing entry counts so many changes.
+    pub fn retreat(self, changes: usize) -> Position
+        requires { ⌜ (0 < self .done) × (changes < self .used) ⌝ }
+        ensures { λ r. ⌜ r ≡ retreated self changes ⌝ }
+    {
+        Position {
+            done: self.done - 1,
+            used: self.used - (changes + 1),
+        }
+    }
+}

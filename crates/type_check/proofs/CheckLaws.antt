@@ -1,0 +1,86 @@
+-- What the verdict on a program says: an error is of one of its rows; where it is accepted, each row passes. And a row's judgement, by
+-- its family. Assumes nothing.
+use Prim.Native.Nat.{ℕ, _+_, _<_, _≤_}
+use mathlib.Core.Bool.{true, false, cond}
+use mathlib.Core.List.{List}
+use mathlib.Core.Logic.{⊎-elim}
+use mathlib.Core.Path.{_≡_, refl, sym, ap, _∙_}
+use native.Mathlib.Omega.{arith}
+use borrow.Author.Tests.{eq-eqb, ne-eqb}
+use lib.Dec.{eqb}
+use lib.ListN.{List·getD-eq-default}
+use Rattle.tables.specs.Rows.{instructionRows, instructionAt}
+use Rattle.tables.specs.declared.rows.Instruction.{Instruction}
+use Rattle.type_check.specs.Judgement.{Judgement, pass, fail, verdictAt}
+use Rattle.type_check.specs.Rule.{rules, ruleOf}
+use Rattle.type_check.specs.Codes.{firstCode, secondCode, referenceCode, operandCode, sourceCode, rowRule}
+use Rattle.type_check.specs.Frame.{frameRule}
+use Rattle.type_check.specs.Check.{judgementOf, verdictOf, isError, rowVerdict, checkOf}
+use Rattle.type_check.specs.declared.error.TypeError.{TypeError}
+use Rattle.type_check.specs.declared.error.Verdict.the-variants.{Accepted, Error}
+use Rattle.type_check.proofs.Searches.{Hit, Miss, searched}
+
+module _ (regions nodes : List ℕ) (x : Instruction) where
+  -- a row that is no frame, by its rule
+  pub row-judgement : (x .family ≡ 8 → ⊥) → judgementOf regions nodes x ≡ rowRule regions x
+  unfolding judgementOf
+  row-judgement ne = rw (ne-eqb _ _ ne)
+
+  pub frame-judgement : x .family ≡ 8 → judgementOf regions nodes x ≡ frameRule regions nodes x
+  unfolding judgementOf
+  frame-judgement e = rw (eq-eqb _ _ e)
+
+  -- the rule of family k
+  pub family-judgement : (k : ℕ) → x .family ≡ k → eqb k 8 ≡ false → judgementOf regions nodes x ≡ ruleOf k (x .operator) (firstCode regions x) (secondCode regions x) (cond (eqb k 6) (referenceCode regions x) (operandCode regions x))
+  unfolding judgementOf rowRule sourceCode
+  family-judgement k e f = rw (ap (λ (n : ℕ). eqb n 8) e ∙ f, ap (λ (n : ℕ). eqb n 6) e, e)
+
+  -- "Families 9 and 10 pass."
+  pub other-judgement : 9 ≤ x .family → judgementOf regions nodes x ≡ pass
+  unfolding rowRule ruleOf
+  other-judgement h =
+      let l : 8 ≤ x .family = omega arith in
+      row-judgement (λ e. omega arith)
+      ∙ List·getD-eq-default (rules (x .operator) (firstCode regions x) (secondCode regions x) (sourceCode regions x)) pass l
+
+passes : (row : ℕ) (j : Judgement) → isError (verdictAt row j) ≡ false → j ≡ pass
+passes row pass q = refl
+passes row (fail f) q = let z : _≡_ {A = ℕ} 0 1 = cc in absurd (omega arith)
+
+same-row : (row : ℕ) (j : Judgement) {e : TypeError} → Error e ≡ verdictAt row j → e .row ≡ row
+same-row row pass q = let z : _≡_ {A = ℕ} 0 1 = cc in absurd (omega arith)
+same-row row (fail f) q = cc
+
+module _ (regions nodes instructions : List ℕ) where
+  -- an error is of one of the rows
+  pub error-row : {e : TypeError} → checkOf regions nodes instructions ≡ Error e → e .row < instructionRows instructions
+  unfolding checkOf verdictOf
+  error-row {e} q =
+      ⊎-elim
+      (λ h.
+      let s : e .row ≡ h .row = same-row (h .row) (judgementOf regions nodes (instructionAt instructions (h .row))) (sym q ∙ h .is) in
+      let b : h .row < 0 + instructionRows instructions = h .below in
+      omega arith)
+      (λ m. let z : _≡_ {A = ℕ} 0 1 = cc in absurd (omega arith))
+      (searched _ _ _ 0 (instructionRows instructions))
+
+  module _ (accepted : checkOf regions nodes instructions ≡ Accepted) (k : ℕ) (inside : k < instructionRows instructions) where
+    not-error : isError (rowVerdict regions nodes instructions k) ≡ false
+    unfolding checkOf
+    not-error =
+        ⊎-elim
+        (λ h.
+        let t : isError Accepted ≡ true = ap isError (sym accepted ∙ h .is) ∙ h .holds in
+        let z : _≡_ {A = ℕ} 0 1 = cc in
+        absurd (omega arith))
+        (λ m. m .1 .fails k (omega arith) (omega arith))
+        (searched _ _ _ 0 (instructionRows instructions))
+
+    -- each row passes
+    pub row-passes : judgementOf regions nodes (instructionAt instructions k) ≡ pass
+    unfolding verdictOf
+    row-passes = passes k (judgementOf regions nodes (instructionAt instructions k)) not-error
+
+    -- a row that is no frame by its rule, at its operands' codes
+    pub rule-passes : instructionAt instructions k .family < 8 → rowRule regions (instructionAt instructions k) ≡ pass
+    rule-passes h = sym (row-judgement regions nodes (instructionAt instructions k) (λ e. omega arith)) ∙ row-passes

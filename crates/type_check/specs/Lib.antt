@@ -1,0 +1,8 @@
+pub mod Numbers
+pub mod Judgement
+pub mod Rule
+pub mod Codes
+pub mod Frame
+pub mod Check
+pub mod Names
+pub mod Bench

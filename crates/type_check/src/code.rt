@@ -1,0 +1,30 @@
+// 01's codes and spots in a type error, as specs/Numbers.antt names them. The kinds are codes too.
+pub const INTEGER_LITERAL: u64 = 4;
+
+pub const REAL_LITERAL: u64 = 5;
+
+pub const IMAGINARY: u64 = 6;
+
+pub const VARIABLE: u64 = 7;
+
+pub const ABSENT: u64 = 8;
+
+// What an operator requires.
+pub const REAL_OR_INTEGRAL: u64 = 9;
+
+pub const INTEGRAL: u64 = 10;
+
+pub const BIT_ONLY: u64 = 11;
+
+// The operand that an error names.
+pub const FIRST: u64 = 1;
+
+pub const SECOND: u64 = 2;
+
+pub const SOURCE: u64 = 3;
+
+// quil-rs names the offset where a STORE's source is undeclared.
+pub const STORE_SOURCE: u64 = SECOND;
+
+// A frame's first node; the others follow in row order.
+pub const NODE: u64 = 4;

@@ -1,0 +1,72 @@
+// Verdicts, and the four type errors under quil-rs's names.
+ghost use mathlib.Core.Path.{_≡_};
+ghost use Rattle.type_check.specs.Judgement.{undefinedMemoryReference, dataTypeMismatch, realValueRequired, operatorOperandMismatch, verdictAt};
+ghost use Rattle.type_check.specs.Judgement.{fail};
+use crate::code::ABSENT;
+
+// 01's six words.
+pub struct TypeError {
+    pub kind: u64,
+    pub row: u64,
+    pub spot: u64,
+    pub src_spot: u64,
+    pub first_code: u64,
+    pub second_code: u64,
+}
+
+pub enum Verdict {
+    Accepted,
+    Error(TypeError),
+}
+
+pub fn undefined_memory_reference(row: u64, spot: u64) -> Verdict
+    ensures { λ r. ⌜ r ≡ verdictAt row (undefinedMemoryReference spot) ⌝ }
+{
+    Verdict::Error(TypeError {
+        kind: 1,
+        row,
+        spot,
+        src_spot: 0,
+        first_code: ABSENT,
+        second_code: ABSENT,
+    })
+}
+
+pub fn data_type_mismatch(row: u64, dst_spot: u64, src_spot: u64, dst: u64, src: u64) -> Verdict
+    ensures { λ r. ⌜ r ≡ verdictAt row (dataTypeMismatch «dst_spot» «src_spot» dst src) ⌝ }
+{
+    Verdict::Error(TypeError {
+        kind: 2,
+        row,
+        spot: dst_spot,
+        src_spot,
+        first_code: dst,
+        second_code: src,
+    })
+}
+
+pub fn real_value_required(row: u64, spot: u64, found: u64) -> Verdict
+    ensures { λ r. ⌜ r ≡ verdictAt row (realValueRequired spot found) ⌝ }
+{
+    Verdict::Error(TypeError {
+        kind: 3,
+        row,
+        spot,
+        src_spot: 0,
+        first_code: found,
+        second_code: ABSENT,
+    })
+}
+
+pub fn operator_operand_mismatch(row: u64, spot: u64, found: u64, required: u64) -> Verdict
+    ensures { λ r. ⌜ r ≡ verdictAt row (operatorOperandMismatch spot found required) ⌝ }
+{
+    Verdict::Error(TypeError {
+        kind: 4,
+        row,
+        spot,
+        src_spot: 0,
+        first_code: found,
+        second_code: required,
+    })
+}

@@ -1,0 +1,56 @@
+// The type check of a row, by its family, and of a program: its first bad row.
+ghost use mathlib.Core.Path.{_≡_};
+ghost use Rattle.type_check.specs.Check.{FrameInside, FramesInside, verdictOf, checkOf};
+use crate::error::Verdict;
+use crate::frame::check_frame;
+use crate::rules::type_check_arithmetic;
+use crate::rules::type_check_binary_logic;
+use crate::rules::type_check_comparison;
+use crate::rules::type_check_exchange;
+use crate::rules::type_check_load;
+use crate::rules::type_check_move;
+use crate::rules::type_check_store;
+use crate::rules::type_check_unary_logic;
+use tables::rows::INSTRUCTION_WIDTH;
+use tables::rows::Instruction;
+use tables::rows::instruction_at;
+
+pub fn check_row(regions: &[u64], nodes: &[u64], row: u64, x: Instruction) -> Verdict
+    requires { ⌜ FrameInside (now nodes) x ⌝ }
+    ensures { λ r. ⌜ r ≡ verdictOf (now (regions .entry)) (now (nodes .entry)) row x ⌝ }
+{
+    let family = x.family;
+    match family {
+        0 => type_check_arithmetic(regions, row, x),
+        1 => type_check_comparison(regions, row, x),
+        2 => type_check_binary_logic(regions, row, x),
+        3 => type_check_unary_logic(regions, row, x),
+        4 => type_check_move(regions, row, x),
+        5 => type_check_exchange(regions, row, x),
+        6 => type_check_load(regions, row, x),
+        7 => type_check_store(regions, row, x),
+        8 => check_frame(regions, nodes, row, x),
+        _ => Verdict::Accepted,
+    }
+}
+
+pub fn check_program(regions: &[u64], nodes: &[u64], instructions: &[u64]) -> Verdict
+    requires { ⌜ FramesInside (now nodes) (now instructions) ⌝ }
+    ensures { λ r. ⌜ r ≡ checkOf (now (regions .entry)) (now (nodes .entry)) (now (instructions .entry)) ⌝ }
+{
+    let rows = instructions.len() / INSTRUCTION_WIDTH;
+    let mut row = 0;
+    while row < rows {
+        let verdict = check_row(
+            regions,
+            nodes,
+            row as u64,
+            instruction_at(instructions, row),
+        );
+        if let Verdict::Error(error) = verdict {
+            return Verdict::Error(error);
+        }
+        row += 1;
+    }
+    Verdict::Accepted
+}

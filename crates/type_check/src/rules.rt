@@ -1,0 +1,300 @@
+// The typing rules of families 0 to 7. A rule looks names up in 01's order; the first look that fails is the error.
+ghost use mathlib.Core.Path.{_≡_};
+ghost use Prim.Native.Nat.{_<_};
+ghost use Rattle.tables.specs.Rows.{regionRows, regionKind};
+ghost use Rattle.type_check.specs.Judgement.{verdictAt};
+ghost use Rattle.type_check.specs.Rule.{arithmeticSource, arithmeticRule, sourceRule, comparisonRule, logicSource, logicRule, unaryRule, moveRule, exchangeRule, loadKinds, loadRule, storeSource, storeRule};
+ghost use Rattle.type_check.specs.Codes.{kindCode, codeOf, firstCode, secondCode, referenceCode, operandCode};
+use crate::code::BIT_ONLY;
+use crate::code::FIRST;
+use crate::code::INTEGER_LITERAL;
+use crate::code::INTEGRAL;
+use crate::code::REAL_LITERAL;
+use crate::code::REAL_OR_INTEGRAL;
+use crate::code::SECOND;
+use crate::code::SOURCE;
+use crate::code::STORE_SOURCE;
+use crate::error::Verdict;
+use crate::error::data_type_mismatch;
+use crate::error::operator_operand_mismatch;
+use crate::error::undefined_memory_reference;
+use tables::lookup::Found;
+use tables::lookup::lookup_region;
+use tables::rows::Instruction;
+use words::kind::BIT;
+use words::kind::INTEGER;
+use words::kind::OCTET;
+use words::kind::REAL;
+
+// A declared region's kind. The loader leaves no word above REAL there.
+pub fn kind_at(regions: &[u64], region: usize) -> u64
+    requires { ⌜ region < regionRows (now regions) ⌝ }
+    ensures { λ r. ⌜ r ≡ kindCode (regionKind (now (regions .entry)) region) ⌝ }
+{
+    let kind = tables::rows::region_at(regions, region).kind;
+    match kind {
+        BIT..=OCTET => kind,
+        _ => REAL,
+    }
+}
+
+// An arithmetic source that is a reference.
+fn arithmetic_source(regions: &[u64], row: u64, destination: u64, name: u64) -> Verdict
+    ensures { λ r. ⌜ r ≡ verdictAt row (arithmeticSource destination (codeOf (now (regions .entry)) name)) ⌝ }
+{
+    let Found::At(region) = lookup_region(regions, name) else {
+        return undefined_memory_reference(row, SOURCE);
+    };
+    let source = kind_at(regions, region);
+    match source {
+        BIT | OCTET => operator_operand_mismatch(row, SOURCE, source, REAL_OR_INTEGRAL),
+        _ => {
+            if destination == source {
+                Verdict::Accepted
+            } else {
+                data_type_mismatch(row, FIRST, SOURCE, destination, source)
+            }
+        }
+    }
+}
+
+pub fn type_check_arithmetic(regions: &[u64], row: u64, x: Instruction) -> Verdict
+    ensures { λ r. ⌜ r ≡ verdictAt row (arithmeticRule (firstCode (now (regions .entry)) x) (operandCode (now (regions .entry)) x)) ⌝ }
+{
+    let Found::At(region) = lookup_region(regions, x.first_name) else {
+        return undefined_memory_reference(row, FIRST);
+    };
+    let destination = kind_at(regions, region);
+    let form = x.source_form;
+    match form {
+        0 => match destination {
+            INTEGER => Verdict::Accepted,
+            REAL => data_type_mismatch(row, FIRST, SOURCE, destination, INTEGER_LITERAL),
+            _ => operator_operand_mismatch(row, FIRST, destination, REAL_OR_INTEGRAL),
+        },
+        1 => match destination {
+            REAL => Verdict::Accepted,
+            _ => data_type_mismatch(row, FIRST, SOURCE, destination, REAL_LITERAL),
+        },
+        _ => match destination {
+            BIT | OCTET => operator_operand_mismatch(row, FIRST, destination, REAL_OR_INTEGRAL),
+            _ => arithmetic_source(regions, row, destination, x.source_first),
+        },
+    }
+}
+
+// A reference against the kind of the operand at `spot`.
+fn source_reference(regions: &[u64], row: u64, spot: u64, kind: u64, name: u64) -> Verdict
+    ensures { λ r. ⌜ r ≡ verdictAt row (sourceRule spot kind (codeOf (now (regions .entry)) name)) ⌝ }
+{
+    let Found::At(region) = lookup_region(regions, name) else {
+        return undefined_memory_reference(row, SOURCE);
+    };
+    let source = kind_at(regions, region);
+    if kind == source {
+        Verdict::Accepted
+    } else {
+        data_type_mismatch(row, spot, SOURCE, kind, source)
+    }
+}
+
+// A literal or a reference against the kind of the operand at `spot`: MOVE's source, a comparison's rhs.
+fn check_source(regions: &[u64], row: u64, spot: u64, kind: u64, x: Instruction) -> Verdict
+    ensures { λ r. ⌜ r ≡ verdictAt row (sourceRule spot kind (operandCode (now (regions .entry)) x)) ⌝ }
+{
+    let form = x.source_form;
+    match form {
+        0 => match kind {
+            BIT..=OCTET => Verdict::Accepted,
+            _ => data_type_mismatch(row, spot, SOURCE, kind, INTEGER_LITERAL),
+        },
+        1 => match kind {
+            BIT..=OCTET => data_type_mismatch(row, spot, SOURCE, kind, REAL_LITERAL),
+            _ => Verdict::Accepted,
+        },
+        _ => source_reference(regions, row, spot, kind, x.source_first),
+    }
+}
+
+pub fn type_check_comparison(regions: &[u64], row: u64, x: Instruction) -> Verdict
+    ensures { λ r. ⌜ r ≡ verdictAt row (comparisonRule (firstCode (now (regions .entry)) x) (secondCode (now (regions .entry)) x) (operandCode (now (regions .entry)) x)) ⌝ }
+{
+    let Found::At(first) = lookup_region(regions, x.first_name) else {
+        return undefined_memory_reference(row, FIRST);
+    };
+    let Found::At(second) = lookup_region(regions, x.second_name) else {
+        return undefined_memory_reference(row, SECOND);
+    };
+    let destination = kind_at(regions, first);
+    let lhs = kind_at(regions, second);
+    match destination {
+        BIT => check_source(regions, row, SECOND, lhs, x),
+        _ => operator_operand_mismatch(row, FIRST, destination, BIT_ONLY),
+    }
+}
+
+// A source of binary logic. The loader lets no real literal through.
+fn logic_source(regions: &[u64], row: u64, x: Instruction) -> Verdict
+    ensures { λ r. ⌜ r ≡ verdictAt row (logicSource (operandCode (now (regions .entry)) x)) ⌝ }
+{
+    let form = x.source_form;
+    match form {
+        0 => return Verdict::Accepted,
+        1 => return operator_operand_mismatch(row, SOURCE, REAL_LITERAL, INTEGRAL),
+        _ => {}
+    }
+    let Found::At(region) = lookup_region(regions, x.source_first) else {
+        return undefined_memory_reference(row, SOURCE);
+    };
+    let source = kind_at(regions, region);
+    match source {
+        BIT..=OCTET => Verdict::Accepted,
+        _ => operator_operand_mismatch(row, SOURCE, source, INTEGRAL),
+    }
+}
+
+pub fn type_check_binary_logic(regions: &[u64], row: u64, x: Instruction) -> Verdict
+    ensures { λ r. ⌜ r ≡ verdictAt row (logicRule (firstCode (now (regions .entry)) x) (operandCode (now (regions .entry)) x)) ⌝ }
+{
+    let Found::At(region) = lookup_region(regions, x.first_name) else {
+        return undefined_memory_reference(row, FIRST);
+    };
+    let destination = kind_at(regions, region);
+    match destination {
+        BIT..=OCTET => logic_source(regions, row, x),
+        _ => operator_operand_mismatch(row, FIRST, destination, INTEGRAL),
+    }
+}
+
+// NEG is operator 0, NOT is 1.
+pub fn type_check_unary_logic(regions: &[u64], row: u64, x: Instruction) -> Verdict
+    ensures { λ r. ⌜ r ≡ verdictAt row (unaryRule (x .operator) (firstCode (now (regions .entry)) x)) ⌝ }
+{
+    let Found::At(region) = lookup_region(regions, x.first_name) else {
+        return undefined_memory_reference(row, FIRST);
+    };
+    let operand = kind_at(regions, region);
+    let operator = x.operator;
+    match operator {
+        0 => match operand {
+            BIT | OCTET => operator_operand_mismatch(row, FIRST, operand, REAL_OR_INTEGRAL),
+            _ => Verdict::Accepted,
+        },
+        _ => match operand {
+            BIT..=OCTET => Verdict::Accepted,
+            _ => operator_operand_mismatch(row, FIRST, operand, INTEGRAL),
+        },
+    }
+}
+
+pub fn type_check_move(regions: &[u64], row: u64, x: Instruction) -> Verdict
+    ensures { λ r. ⌜ r ≡ verdictAt row (moveRule (firstCode (now (regions .entry)) x) (operandCode (now (regions .entry)) x)) ⌝ }
+{
+    let Found::At(region) = lookup_region(regions, x.first_name) else {
+        return undefined_memory_reference(row, FIRST);
+    };
+    let destination = kind_at(regions, region);
+    check_source(regions, row, FIRST, destination, x)
+}
+
+pub fn type_check_exchange(regions: &[u64], row: u64, x: Instruction) -> Verdict
+    ensures { λ r. ⌜ r ≡ verdictAt row (exchangeRule (firstCode (now (regions .entry)) x) (secondCode (now (regions .entry)) x)) ⌝ }
+{
+    let Found::At(first) = lookup_region(regions, x.first_name) else {
+        return undefined_memory_reference(row, FIRST);
+    };
+    let Found::At(second) = lookup_region(regions, x.second_name) else {
+        return undefined_memory_reference(row, SECOND);
+    };
+    let left = kind_at(regions, first);
+    let right = kind_at(regions, second);
+    if left == right {
+        Verdict::Accepted
+    } else {
+        data_type_mismatch(row, FIRST, SECOND, left, right)
+    }
+}
+
+// The kinds of a LOAD whose operands are declared.
+fn load_kinds(row: u64, destination: u64, source: u64, offset: u64) -> Verdict
+    ensures { λ r. ⌜ r ≡ verdictAt row (loadKinds destination source offset) ⌝ }
+{
+    match offset {
+        INTEGER => {
+            if destination == source {
+                Verdict::Accepted
+            } else {
+                data_type_mismatch(row, FIRST, SECOND, destination, source)
+            }
+        }
+        _ => operator_operand_mismatch(row, SOURCE, offset, INTEGRAL),
+    }
+}
+
+pub fn type_check_load(regions: &[u64], row: u64, x: Instruction) -> Verdict
+    ensures { λ r. ⌜ r ≡ verdictAt row (loadRule (firstCode (now (regions .entry)) x) (secondCode (now (regions .entry)) x) (referenceCode (now (regions .entry)) x)) ⌝ }
+{
+    let Found::At(first) = lookup_region(regions, x.first_name) else {
+        return undefined_memory_reference(row, FIRST);
+    };
+    let Found::At(second) = lookup_region(regions, x.second_name) else {
+        return undefined_memory_reference(row, SECOND);
+    };
+    let Found::At(third) = lookup_region(regions, x.source_first) else {
+        return undefined_memory_reference(row, SOURCE);
+    };
+    let destination = kind_at(regions, first);
+    let source = kind_at(regions, second);
+    let offset = kind_at(regions, third);
+    load_kinds(row, destination, source, offset)
+}
+
+// A STORE's source that is a reference.
+fn store_reference(regions: &[u64], row: u64, destination: u64, name: u64) -> Verdict
+    ensures { λ r. ⌜ r ≡ verdictAt row (storeSource destination (codeOf (now (regions .entry)) name)) ⌝ }
+{
+    let Found::At(region) = lookup_region(regions, name) else {
+        return undefined_memory_reference(row, STORE_SOURCE);
+    };
+    let source = kind_at(regions, region);
+    if destination == source {
+        Verdict::Accepted
+    } else {
+        data_type_mismatch(row, SOURCE, FIRST, source, destination)
+    }
+}
+
+// A STORE's source against the kind of its destination: the source is the error's `dst`.
+fn store_source(regions: &[u64], row: u64, destination: u64, x: Instruction) -> Verdict
+    ensures { λ r. ⌜ r ≡ verdictAt row (storeSource destination (operandCode (now (regions .entry)) x)) ⌝ }
+{
+    let form = x.source_form;
+    match form {
+        0 => match destination {
+            BIT..=OCTET => Verdict::Accepted,
+            _ => data_type_mismatch(row, SOURCE, FIRST, INTEGER_LITERAL, destination),
+        },
+        1 => match destination {
+            BIT..=OCTET => data_type_mismatch(row, SOURCE, FIRST, REAL_LITERAL, destination),
+            _ => Verdict::Accepted,
+        },
+        _ => store_reference(regions, row, destination, x.source_first),
+    }
+}
+
+pub fn type_check_store(regions: &[u64], row: u64, x: Instruction) -> Verdict
+    ensures { λ r. ⌜ r ≡ verdictAt row (storeRule (firstCode (now (regions .entry)) x) (secondCode (now (regions .entry)) x) (operandCode (now (regions .entry)) x)) ⌝ }
+{
+    let Found::At(first) = lookup_region(regions, x.first_name) else {
+        return undefined_memory_reference(row, FIRST);
+    };
+    let Found::At(second) = lookup_region(regions, x.second_name) else {
+        return undefined_memory_reference(row, SECOND);
+    };
+    let destination = kind_at(regions, first);
+    let offset = kind_at(regions, second);
+    match offset {
+        INTEGER => store_source(regions, row, destination, x),
+        _ => operator_operand_mismatch(row, SECOND, offset, INTEGRAL),
+    }
+}
