@@ -7,16 +7,23 @@ use native.Mathlib.Omega.{arith}
 use borrow.Author.Tests.{eqb-false, ltb-true, ltb-false}
 use lib.Dec.{eqb, ltb}
 use Rattle.tables.specs.Outcome.{ok, _>>=_}
-use Rattle.tables.specs.Rows.{externAt}
+use Rattle.tables.specs.Rows.{instructionRows, externAt, instructionAt}
 use Rattle.tables.specs.Lookup.{lookupExtern}
 use Rattle.tables.specs.declared.lookup.Found.{Found}
 use Rattle.tables.specs.declared.lookup.Found.the-variants.{At, Nothing}
 use Rattle.tables.specs.declared.rows.Instruction.{Instruction}
+use Rattle.tables.specs.Tables.{Tables}
+use Rattle.tables.proofs.Loaded.{Loaded, call-arguments, extern-parameters}
 use Rattle.tables.proofs.LookupLaws.{lookup-within}
 use Rattle.extern_call.specs.Call.{callOf, foundExtern, findCall, arityOf, placeOf, CallRanges, Ranges, Counted, Paired}
 use Rattle.extern_call.specs.Access.{lowerOf, pairedCount}
 use Rattle.extern_call.specs.declared.call.Call.{Call}
 use Rattle.extern_call.specs.declared.call.Place.the-variants.{Return, Parameter}
+
+-- what the loader's acceptance gives a CALL's row
+pub loaded-ranges : {t : Tables} (l : Loaded t) (row : ℕ) → row < instructionRows (t .instructions) → instructionAt (t .instructions) row .family ≡ 9
+    → CallRanges (t .externs) (t .parameters) (t .arguments) (instructionAt (t .instructions) row)
+loaded-ranges l row h f = record { argumentRange = call-arguments l row h f; parameterRange = extern-parameters l }
 
 -- the extern of a CALL that is found
 pub record CallAt (externs : List ℕ) (x : Instruction) (call : Call) : Type 0 where

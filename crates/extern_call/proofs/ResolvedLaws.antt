@@ -1,9 +1,8 @@
 -- What a resolved argument says: its region is declared with that kind, a vector's length is the region's, and where it is mutable its name is in the write set. Assumes nothing.
 use Prim.Native.Nat.{ℕ, _+_, _<_}
 use mathlib.Core.Path.{_≡_, refl, _∙_}
-use mathlib.Core.Bool.{Bool, true, false, cond, _&&_}
+use mathlib.Core.Bool.{Bool, true, false, cond}
 use mathlib.Core.List.{List, [], _∷_}
-use native.Mathlib.Omega.{arith}
 use borrow.Author.Tests.{ne-eqb, eqb-true}
 use lib.Dec.{eqb}
 use Rattle.tables.specs.Rows.{regionKind, regionLength, regionAt, parameterAt, argumentAt}
@@ -12,6 +11,7 @@ use Rattle.tables.specs.declared.lookup.Found.{Found}
 use Rattle.tables.specs.declared.lookup.Found.the-variants.{At, Nothing}
 use Rattle.tables.specs.declared.rows.Argument.{Argument}
 use Rattle.tables.specs.declared.rows.Parameter.{Parameter}
+use Rattle.tables.proofs.Loaded.{both}
 use Rattle.extern_call.specs.Argument.{argumentOf, namesOf, indexOf}
 use Rattle.extern_call.specs.Vectors.{sameVector, declaredVector, expectedVector}
 use Rattle.extern_call.specs.Resolved.{resolvedName, resolvedMutable}
@@ -78,10 +78,6 @@ module _ (regions : List ℕ) (a : UnresolvedCallArgument) (m : ℕ) where
   Facts (R.MemoryReference name index kind mutable) = ReferenceFacts name index kind mutable
   Facts (R.Immediate real imaginary kind) = m ≡ 0
 
-and-true : (x y : Bool) → (x && y) ≡ true → (x ≡ true) × (y ≡ true)
-and-true true y e = (refl, e)
-and-true false y e = let z : _≡_ {A = ℕ} 0 1 = cc in absurd (omega arith)
-
 module _ (regions : List ℕ) (a : UnresolvedCallArgument) (name m : ℕ) (names : namesOf a ≡ name ∷ []) where
   scalar-facts : (index kind : ℕ) → indexOf a ≡ index → Gives (Facts regions a m) (scalarOf regions name index kind m)
   unfolding scalarOf
@@ -97,7 +93,7 @@ module _ (regions : List ℕ) (a : UnresolvedCallArgument) (name m : ℕ) (names
       gives-declared (Facts regions a m) (lookupRegion regions name) name _
       (λ k f. gives-cond (Facts regions a m) (sameVector (declaredVector (regionAt regions k)) v) _ _
       (λ t.
-      let b = and-true (eqb (regionKind regions k) (v .kind)) (eqb (regionLength regions k) (v .length)) t in
+      let b = both (eqb (regionKind regions k) (v .kind)) (eqb (regionLength regions k) (v .length)) t in
       record { names = names; mutability = refl; declares = record { region = k; named = f; ofKind = eqb-true _ _ (b .0); ofLength = eqb-true _ _ (b .1) } })
       (λ t. tt))
 

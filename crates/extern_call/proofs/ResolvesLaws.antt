@@ -1,6 +1,6 @@
 -- What `resolvesCall` says of a CALL that resolves, and where its resolved rows stand. Assumes nothing.
 use Prim.Native.Nat.{ℕ, zero, suc, _+_, _*_, _<_}
-use mathlib.Core.Path.{_≡_, refl, ap, _∙_}
+use mathlib.Core.Path.{_≡_, refl, _∙_}
 use mathlib.Core.Bool.{Bool, true, false, cond}
 use mathlib.Core.List.{List, append-nil}
 use native.Mathlib.Omega.{arith}
@@ -11,6 +11,7 @@ use lib.Seq.{getD-append-add}
 use Rattle.tables.specs.Refusal.{argumentCount, argumentErrors}
 use Rattle.tables.specs.Outcome.{Outcome, ok, refuse, _>>=_, _>>_, need}
 use Rattle.tables.specs.declared.rows.Instruction.{Instruction}
+use Rattle.tables.proofs.Loaded.{passed}
 use Rattle.tables.proofs.FirstLaws.{every-row}
 use Rattle.extern_call.specs.Call.{findCall, arityOf, isCounted, isResolved, resolutionAt, allResolve, resolvesCall, CallRanges, Counted}
 use Rattle.extern_call.specs.Resolved.{resolvedRow}
@@ -31,13 +32,6 @@ pub record Resolving (regions externs parameters arguments : List ℕ) (x : Inst
   pub count : call .«argument_count» ≡ arityOf call
   pub all : allResolve regions parameters arguments call ≡ true
 
-looks : (t₁ t₂ : Bool) (c call : Call) → (need t₁ argumentCount >> (need t₂ argumentErrors >> ok c)) ≡ ok call
-    → (c ≡ call) × (t₁ ≡ true) × (t₂ ≡ true)
-unfolding need _>>_
-looks true true c call e = ((cc), refl, refl)
-looks true false c call e = let z : _≡_ {A = ℕ} 0 1 = cc in absurd (omega arith)
-looks false t₂ c call e = let z : _≡_ {A = ℕ} 0 1 = cc in absurd (omega arith)
-
 module _ (regions externs parameters arguments : List ℕ) (x : Instruction) (call : Call) where
   resolves-by : (o : Outcome Call) → findCall externs x ≡ o
       → (o >>= (λ c. need (isCounted c) argumentCount >> (need (allResolve regions parameters arguments c) argumentErrors >> ok c))) ≡ ok call
@@ -45,8 +39,10 @@ module _ (regions externs parameters arguments : List ℕ) (x : Instruction) (ca
   unfolding _>>=_
   resolves-by (refuse n) f e = let z : _≡_ {A = ℕ} 0 1 = cc in absurd (omega arith)
   resolves-by (ok c) f e =
-      let l = looks (isCounted c) (allResolve regions parameters arguments c) c call e in
-      record { found = f ∙ ap ok (l .0); count = rw (l .0) at (eqb-true (c .«argument_count») (arityOf c) (l .1)); all = rw (l .0) at (l .2) }
+      let (counted, e₁) = passed (isCounted c) _ _ _ e in
+      let (all, e₂) = passed (allResolve regions parameters arguments c) _ _ _ e₁ in
+      let same : c ≡ call = cc in
+      record { found = f ∙ e₂; count = rw same at (eqb-true (c .«argument_count») (arityOf c) counted); all = rw same at all }
 
   pub resolves-ok : resolvesCall regions externs parameters arguments x ≡ ok call → Resolving regions externs parameters arguments x call
   unfolding resolvesCall

@@ -18,7 +18,7 @@ use Rattle.type_check.specs.Frame.{frameRule}
 use Rattle.type_check.specs.Check.{judgementOf, verdictOf, isError, rowVerdict, checkOf}
 use Rattle.type_check.specs.declared.error.TypeError.{TypeError}
 use Rattle.type_check.specs.declared.error.Verdict.the-variants.{Accepted, Error}
-use Rattle.type_check.proofs.Searches.{Hit, Miss, searched}
+use Rattle.type_check.proofs.Searches.{searched}
 
 module _ (regions nodes : List ℕ) (x : Instruction) where
   -- a row that is no frame, by its rule

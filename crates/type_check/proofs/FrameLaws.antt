@@ -1,17 +1,16 @@
 -- What a tree's verdict says: a failing node is one of the tree's. Assumes nothing.
 use Prim.Native.Nat.{ℕ, _+_, _<_}
-use mathlib.Core.Bool.{true}
 use mathlib.Core.List.{List}
 use mathlib.Core.Logic.{⊎-elim}
-use mathlib.Core.Path.{_≡_, refl, sym, _∙_}
+use mathlib.Core.Path.{_≡_, sym, _∙_}
 use native.Mathlib.Omega.{arith}
 use Rattle.tables.specs.Rows.{nodeAt}
-use Rattle.type_check.specs.Frame.{nodeVerdict, isFailure, atPlace, treeVerdict}
+use Rattle.type_check.specs.Frame.{nodeVerdict, atPlace, treeVerdict}
 use Rattle.type_check.specs.declared.frame.NodeError.{NodeError}
 use Rattle.type_check.specs.declared.frame.NodeVerdict.{NodeVerdict}
 use Rattle.type_check.specs.declared.frame.NodeVerdict.the-variants.{Real, Fails}
-use Rattle.type_check.specs.declared.frame.TreeVerdict.the-variants.{AllReal, FailsAt}
-use Rattle.type_check.proofs.Searches.{Hit, searched}
+use Rattle.type_check.specs.declared.frame.TreeVerdict.the-variants.{FailsAt}
+use Rattle.type_check.proofs.Searches.{searched}
 
 same-place : (v : NodeVerdict) {place k : ℕ} {e : NodeError} → FailsAt place e ≡ atPlace k v → place ≡ k
 same-place Real q = let z : _≡_ {A = ℕ} 0 1 = cc in absurd (omega arith)

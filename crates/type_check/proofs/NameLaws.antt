@@ -1,9 +1,9 @@
 -- A row's judgement depends on the codes of the names that the row uses, and on no other declaration. Assumes nothing.
-use Prim.Native.Nat.{ℕ, zero, suc, _+_, _<_, _≤_}
-use mathlib.Core.Bool.{Bool, true, false, not, cond, _&&_, _||_}
+use Prim.Native.Nat.{ℕ, zero, suc, _+_, _<_}
+use mathlib.Core.Bool.{Bool, true, false, not, cond, _||_}
 use mathlib.Core.List.{List}
 use mathlib.Core.Logic.{⊎-elim}
-use mathlib.Core.Path.{_≡_, refl, sym, ap, _∙_}
+use mathlib.Core.Path.{_≡_, refl, ap}
 use native.Mathlib.Omega.{arith}
 use borrow.Author.Tests.{eqb-true, eq-eqb}
 use lib.Dec.{eqb}
@@ -11,13 +11,11 @@ use Rattle.tables.specs.First.{first}
 use Rattle.tables.specs.Rows.{nodeAt}
 use Rattle.tables.specs.declared.rows.Node.{Node}
 use Rattle.tables.specs.declared.rows.Instruction.{Instruction}
-use Rattle.type_check.specs.Judgement.{Judgement}
 use Rattle.type_check.specs.Rule.{ruleOf}
 use Rattle.type_check.specs.Codes.{codeOf, referenceCode, operandCode, sourceCode, rowRule}
-use Rattle.type_check.specs.Frame.{addressRule, numberVerdict, nodeVerdict, isFailure, atPlace, treeRule, treeVerdict, frameRule}
+use Rattle.type_check.specs.Frame.{nodeVerdict, isFailure, atPlace, treeRule, treeVerdict, frameRule}
 use Rattle.type_check.specs.Check.{judgementOf}
 use Rattle.type_check.specs.Names.{usesFirst, usesSecond, usesSource, isReference, operandNamed, addresses, nodeNamed, rowNamed}
-use Rattle.type_check.specs.declared.frame.NodeVerdict.{NodeVerdict}
 use Rattle.type_check.specs.declared.frame.TreeVerdict.the-variants.{AllReal}
 use Rattle.type_check.proofs.Searches.{searched, same-search}
 

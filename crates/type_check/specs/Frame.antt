@@ -1,7 +1,7 @@
 -- 01, "Type check": "Frame: left before right; address declared and REAL (3); imaginary part above 2^-52 in size is 3, NaN passes; variable is 3."
 use Prim.Native.Nat.{ℕ, _+_}
 use mathlib.Core.Bool.{Bool, true, false, cond}
-use mathlib.Core.List.{List, [], _∷_}
+use mathlib.Core.List.{List}
 use lib.Dec.{eqb}
 use Rattle.tables.specs.First.{first}
 use Rattle.tables.specs.Rows.{nodeAt}

@@ -3,7 +3,6 @@ use Prim.Native.Nat.{ℕ}
 use mathlib.Core.Bool.{Bool, true, false, cond}
 use mathlib.Core.List.{List, [], _∷_}
 use Rattle.type_check.specs.Numbers.{absent}
-use Rattle.type_check.specs.declared.error.TypeError.{TypeError}
 use Rattle.type_check.specs.declared.error.Verdict.{Verdict}
 use Rattle.type_check.specs.declared.error.Verdict.the-variants.{Accepted, Error}
 

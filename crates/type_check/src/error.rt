@@ -1,7 +1,6 @@
 // Verdicts, and the four type errors under quil-rs's names.
 ghost use mathlib.Core.Path.{_≡_};
 ghost use Rattle.type_check.specs.Judgement.{undefinedMemoryReference, dataTypeMismatch, realValueRequired, operatorOperandMismatch, verdictAt};
-ghost use Rattle.type_check.specs.Judgement.{fail};
 use crate::code::ABSENT;
 
 // 01's six words.

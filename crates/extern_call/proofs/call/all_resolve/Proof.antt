@@ -1,8 +1,7 @@
+use Rattle.tables.proofs.FirstLaws.{every-start, every-stop, every-turn, every-end}
 use Prim.Native.Nat.{_-_}
-use mathlib.Core.Bool.{not}
 use mathlib.Core.Path.{_≡_, sym, ap, _∙_}
-use Rattle.tables.specs.First.{everyFrom, every}
-use Rattle.tables.proofs.FirstLaws.{first-hit, first-miss, first-end, first-all}
+use Rattle.tables.specs.First.{everyFrom}
 use Rattle.extern_call.specs.Call.{resolutionAt, isResolved, allResolve}
 use Rattle.extern_call.proofs.CallLaws.{counted-paired}
 use borrow.Author.Needs.{needs}
@@ -16,8 +15,8 @@ abbrev μ-loop : tie.MeasureT-loop
 μ-loop regions parameters arguments call n i₀ i = n - i
 
 loop-holds : tie.Need-loop-holds Inv-loop μ-loop
-unfolding allResolve every
-loop-holds c = first-all _ _ _ _
+unfolding allResolve
+loop-holds c = every-start _ _
 
 resolve-at-requires : tie.Need-resolve-at-requires Inv-loop μ-loop
 resolve-at-requires c κs = counted-paired _ (c .before .before .before .before .before .pre) (c .loop-test .taken)
@@ -26,7 +25,8 @@ enum-told : tie.Need-enum-told Inv-loop μ-loop
 enum-told c = search needs
 
 returns : tie.Need-returns Inv-loop μ-loop
-returns c = sym (first-hit _ _ _ _ _ (c .before .before .before .loop-test .taken) (ap (λ r. not (isResolved r)) (sym (c .before .before .resolve-at .ensures) ∙ c .enum-told .given .1))) ∙ c .before .before .before .before .loop .inv
+unfolding allResolve
+returns c = every-stop _ _ _ (c .before .before .before .before .loop .inv) (c .before .before .before .loop-test .taken) (ap isResolved (sym (c .before .before .resolve-at .ensures) ∙ c .enum-told .given .1))
 
 enum-told-2 : tie.Need-enum-told-2 Inv-loop μ-loop
 enum-told-2 c = search needs
@@ -38,10 +38,12 @@ loop-less : tie.Need-loop-less Inv-loop μ-loop
 loop-less c = search needs
 
 loop-again : tie.Need-loop-again Inv-loop μ-loop
-loop-again c = sym (first-miss _ _ _ _ _ (c .before .before .before .loop-test .taken) (ap (λ r. not (isResolved r)) (sym (c .before .before .resolve-at .ensures) ∙ c .enum-told2 .given .1))) ∙ c .before .before .before .before .loop .inv
+unfolding allResolve
+loop-again c = every-turn _ _ _ (c .before .before .before .before .loop .inv) (c .before .before .before .loop-test .taken) (ap isResolved (sym (c .before .before .resolve-at .ensures) ∙ c .enum-told2 .given .1))
 
 returns-2 : tie.Need-returns-2 Inv-loop μ-loop
-returns-2 c = sym (first-end _ _ _ _ _ (c .loop-test .left)) ∙ c .before .loop .inv
+unfolding allResolve
+returns-2 c = every-end _ _ _ (c .before .loop .inv) (c .loop-test .left)
 
 pub all-resolve-spec : {M : Type 1} → statement M
 all-resolve-spec =

@@ -1,11 +1,10 @@
 use mathlib.Core.Path.{_≡_, sym, ap, _∙_}
 use native.Mathlib.Omega.{arith}
 use borrow.Author.Needs.{needs}
-use Rattle.type_check.specs.Frame.{nodeVerdict, treeVerdict, isFailure}
+use Rattle.type_check.specs.Frame.{nodeVerdict, treeVerdict, isFailure, treeFrom, atPlace}
 use Prim.Native.Nat.{_+_, _-_, _≤_}
 use Rattle.tables.specs.Rows.{nodeRows}
 use Rattle.tables.proofs.FirstLaws.{first-hit, first-miss, first-end, first-all}
-use Rattle.type_check.specs.Frame.{treeFrom, atPlace}
 use Rattle.type_check.proofs.frame.check_tree.Statement.{statement}
 use Rattle.type_check.proofs.frame.check_tree.Tie as tie
 

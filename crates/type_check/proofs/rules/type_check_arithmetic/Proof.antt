@@ -51,7 +51,7 @@ returns-2 c = rw (seen (c .before .before) .code, c .match3 .keys1, eq-eqb _ _ (
 
 returns-3 : tie.Need-returns-3
 unfolding arithmeticRule operandCode
-returns-3 c = rw (seen (c .before .before .before) .code, eq-eqb _ _ (c .before .before .match2 .keys1), c .before .match3 .keys2) (rw (c .before .match3 .keys2) at (c .data-type-mismatch .ensures))
+returns-3 c = rw (seen (c .before .before .before) .code, seen (c .before .before .before) .declared, eq-eqb _ _ (c .before .before .match2 .keys1), isnt 1 (c .before .match3 .keys2) refl, eq-eqb _ _ (c .before .match3 .keys2)) (c .data-type-mismatch .ensures)
 
 returns-4 : tie.Need-returns-4
 unfolding arithmeticRule operandCode
