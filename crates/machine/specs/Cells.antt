@@ -1,0 +1,45 @@
+-- The operands that a row reads: cells and literals. 01, Machine: "A cell is kind, word."
+use Prim.Native.Nat.{ℕ, _+_, _*_}
+use mathlib.Core.Bool.{cond}
+use mathlib.Core.List.{List}
+use lib.ListN.{getD}
+use lib.Dec.{eqb}
+use Rattle.words.specs.Kind.{fitsKind}
+use Rattle.tables.specs.Refusal.{noRule}
+use Rattle.tables.specs.Outcome.{Outcome, ok, refuse, _>>_, need}
+use Rattle.tables.specs.declared.rows.Instruction.{Instruction}
+use Rattle.machine.specs.declared.cell.Value.{Value}
+use Rattle.machine.specs.declared.cell.Read.{Read}
+use Rattle.machine.specs.declared.cell.Read.the-variants.{Holds, NoRule}
+
+-- 01, Type check, the codes: "kinds 0 to 3, 4 integer literal, 5 real literal". A literal's code stands for its kind.
+abbrev pub integerLiteral : ℕ
+integerLiteral = 4
+
+abbrev pub realLiteral : ℕ
+realLiteral = 5
+
+abbrev pub cellKind : List ℕ → ℕ → ℕ
+cellKind cells c = getD cells (2 * c) 0
+
+abbrev pub cellWord : List ℕ → ℕ → ℕ
+cellWord cells c = getD cells (2 * c + 1) 0
+
+abbrev pub cellAt : List ℕ → ℕ → Value
+cellAt cells c = record { kind = cellKind cells c; word = cellWord cells c }
+
+-- "A step reads kinds from cells, never declarations; a read cell with kind above 3 or a word beyond its kind (BIT 1, OCTET 255) has no rule"
+unfoldable pub readOf : List ℕ → ℕ → Outcome Value
+readOf cells c = need (fitsKind (cellKind cells c) (cellWord cells c)) noRule >> ok (cellAt cells c)
+
+-- "source form (0 integer literal, 1 real literal, 2 reference ..)": c is a reference's cell
+unfoldable pub sourceOf : List ℕ → Instruction → ℕ → Outcome Value
+sourceOf cells x c =
+    cond (eqb (x .«source_form») 0) (ok (record { kind = integerLiteral; word = x .«source_first» }))
+    (cond (eqb (x .«source_form») 1) (ok (record { kind = realLiteral; word = x .«source_first» }))
+    (readOf cells c))
+
+-- the answer `Read` of the code
+abbrev pub readOutcome : Read → Outcome Value
+readOutcome (Holds v) = ok v
+readOutcome NoRule = refuse noRule

@@ -1,0 +1,121 @@
+-- What a row of each family does, from its operands' cells on. 01, Order: "18 row's cells, 14 index from a cell, 18 cell reached, 15, 16", then the writes.
+use Prim.Native.Nat.{ℕ}
+use mathlib.Core.Bool.{cond}
+use mathlib.Core.List.{List, [], _∷_}
+use lib.ListN.{getD}
+use lib.Dec.{eqb, ltb}
+use Rattle.words.specs.Kind.{widthOf}
+use Rattle.words.specs.Width.{lowBits}
+use Rattle.tables.specs.Refusal.{noRule}
+use Rattle.tables.specs.Outcome.{Outcome, ok, refuse, _>>=_, _>>_, need}
+use Rattle.tables.specs.declared.rows.Instruction.{Instruction}
+use Rattle.machine.specs.Cells.{integerLiteral, realLiteral, cellKind, readOf, sourceOf}
+use Rattle.machine.specs.Address.{indexedOf}
+use Rattle.machine.specs.Operators.{arithmeticKinds, arithmeticResult, comparisonKinds, comparisonResult, logicKinds, logicResult, unaryKinds, unaryResult}
+use Rattle.machine.specs.declared.cell.Value.{Value}
+use Rattle.machine.specs.declared.cell.Offset.{Offset}
+use Rattle.machine.specs.declared.cell.Offset.the-variants.{Word, NoRule}
+use Rattle.machine.specs.declared.outcome.Write.{Write}
+use Rattle.machine.specs.declared.address.NamedRegions.{NamedRegions}
+use Rattle.machine.specs.declared.address.Addresses.{Addresses}
+
+abbrev pub write : ℕ → ℕ → ℕ → Write
+write c k w = record { cell = c; kind = k; word = w }
+
+abbrev pub one : ℕ → ℕ → ℕ → List Write
+one c k w = write c k w ∷ []
+
+-- ---- reads
+
+-- a LOAD's or STORE's offset: "offset not INTEGER is 4"
+unfoldable pub offsetOf : List ℕ → ℕ → Outcome ℕ
+offsetOf cells c = do
+  v ← readOf cells c
+  need (eqb (v .kind) 1) noRule
+  ok (v .word)
+
+-- The source put into cell c. "Move, load, store copy kind and word. An integer literal takes the target cell's kind, keeping the low 1, 8 or 64 bits;
+-- no rule for REAL." "real literal elsewhere is 2". "in move and store a literal's target is read for its kind alone"
+unfoldable pub putInto : List ℕ → ℕ → Value → Outcome (List Write)
+putInto cells c s =
+    cond (eqb (s .kind) integerLiteral) (need (ltb (cellKind cells c) 3) noRule >> ok (one c (cellKind cells c) (lowBits (widthOf (cellKind cells c)) (s .word))))
+    (cond (eqb (s .kind) realLiteral) (need (eqb (cellKind cells c) 3) noRule >> ok (one c 3 (s .word)))
+    (ok (one c (s .kind) (s .word))))
+
+-- ---- the families; x is the row, n its regions, a its addresses
+
+unfoldable pub arithmeticOf : List ℕ → Instruction → Addresses → Outcome (List Write)
+arithmeticOf cells x a = do
+  d ← readOf cells (a .first)
+  s ← sourceOf cells x (a .source)
+  need (arithmeticKinds (d .kind) (s .kind)) noRule
+  w ← arithmeticResult (x .operator) (d .kind) (d .word) (s .word)
+  ok (one (a .first) (d .kind) w)
+
+-- "A cell only overwritten is not read": the destination's kind is not looked at
+unfoldable pub comparisonOf : List ℕ → Instruction → Addresses → Outcome (List Write)
+comparisonOf cells x a = do
+  l ← readOf cells (a .second)
+  s ← sourceOf cells x (a .source)
+  need (comparisonKinds (l .kind) (s .kind)) noRule
+  ok (one (a .first) 0 (comparisonResult (x .operator) (l .kind) (l .word) (s .word)))
+
+unfoldable pub logicOf : List ℕ → Instruction → Addresses → Outcome (List Write)
+logicOf cells x a = do
+  d ← readOf cells (a .first)
+  s ← sourceOf cells x (a .source)
+  need (logicKinds (d .kind) (s .kind)) noRule
+  w ← logicResult (x .operator) (d .kind) (d .word) (s .word)
+  ok (one (a .first) (d .kind) w)
+
+unfoldable pub unaryOf : List ℕ → Instruction → Addresses → Outcome (List Write)
+unaryOf cells x a = do
+  d ← readOf cells (a .first)
+  need (unaryKinds (x .operator) (d .kind)) noRule
+  ok (one (a .first) (d .kind) (unaryResult (x .operator) (d .kind) (d .word)))
+
+unfoldable pub moveOf : List ℕ → Instruction → Addresses → Outcome (List Write)
+moveOf cells x a = do
+  s ← sourceOf cells x (a .source)
+  putInto cells (a .first) s
+
+-- "Exchange swaps." The order of the two writes is free: first, then second.
+unfoldable pub exchangeOf : List ℕ → Addresses → Outcome (List Write)
+exchangeOf cells a = do
+  d ← readOf cells (a .first)
+  e ← readOf cells (a .second)
+  ok (write (a .first) (e .kind) (e .word) ∷ write (a .second) (d .kind) (d .word) ∷ [])
+
+-- "6 load (second = source region, source = offset reference)"
+unfoldable pub loadOf : List ℕ → List ℕ → NamedRegions → Addresses → Outcome (List Write)
+loadOf regions cells n a = do
+  i ← offsetOf cells (a .source)
+  c ← indexedOf regions (n .second) i
+  v ← readOf cells c
+  ok (one (a .first) (v .kind) (v .word))
+
+-- "7 store (first = destination region, second = offset)"
+unfoldable pub storeOf : List ℕ → List ℕ → Instruction → NamedRegions → Addresses → Outcome (List Write)
+storeOf regions cells x n a = do
+  i ← offsetOf cells (a .second)
+  s ← sourceOf cells x (a .source)
+  c ← indexedOf regions (n .first) i
+  putInto cells c s
+
+-- "Frame, NOP: no change, nothing looked up."
+abbrev pub noWrites : Outcome (List Write)
+noWrites = ok []
+
+abbrev pub families : List ℕ → List ℕ → Instruction → NamedRegions → Addresses → List (Outcome (List Write))
+families regions cells x n a =
+    arithmeticOf cells x a ∷ comparisonOf cells x a ∷ logicOf cells x a ∷ unaryOf cells x a ∷ moveOf cells x a
+    ∷ exchangeOf cells a ∷ loadOf regions cells n a ∷ storeOf regions cells x n a ∷ []
+
+-- by the family's number
+unfoldable pub familyOf : List ℕ → List ℕ → Instruction → NamedRegions → Addresses → Outcome (List Write)
+familyOf regions cells x n a = getD (families regions cells x n a) (x .family) noWrites
+
+-- the answer `Offset` of the code
+abbrev pub offsetOutcome : Offset → Outcome ℕ
+offsetOutcome (Word w) = ok w
+offsetOutcome NoRule = refuse noRule

@@ -1,0 +1,49 @@
+-- What a row does to the cells: a refusal, or its writes in order. 11 and 13 are the session's.
+use Prim.Native.Nat.{ℕ}
+use mathlib.Core.Bool.{Bool, not, cond, _&&_}
+use mathlib.Core.List.{List, [], _∷_}
+use lib.ListN.{length}
+use lib.Dec.{eqb}
+use Rattle.tables.specs.Refusal.{otherInstruction, unfitReply}
+use Rattle.tables.specs.Outcome.{Outcome, ok, refuse, _>>=_, _>>_, need}
+use Rattle.tables.specs.Tables.{Tables}
+use Rattle.tables.specs.Rows.{instructionAt}
+use Rattle.tables.specs.declared.rows.Instruction.{Instruction}
+use Rattle.machine.specs.Address.{namesOf, addressesOf}
+use Rattle.machine.specs.Families.{familyOf}
+use Rattle.machine.specs.Call.{callOutcome}
+use Rattle.machine.specs.declared.outcome.Write.{Write}
+use Rattle.machine.specs.declared.outcome.RowOutcome.{RowOutcome}
+use Rattle.machine.specs.declared.outcome.RowOutcome.the-variants.{Refused, NoWrites, One, Two}
+
+abbrev pub isCall : Instruction → Bool
+isCall x = eqb (x .family) 9
+
+-- "9 instruction 10/1"
+abbrev pub isOther : Instruction → Bool
+isOther x = eqb (x .family) 10 && eqb (x .operator) 1
+
+-- A row that is no CALL. 01, Order: "9; .. else 17, 18 names, 14 written indices", and the families' looks.
+unfoldable pub plainOutcome : List ℕ → List ℕ → Instruction → List ℕ → Outcome (List Write)
+plainOutcome regions cells x reply = do
+  need (not (isOther x)) otherInstruction
+  need (eqb (length reply) 0) unfitReply
+  n ← namesOf regions x
+  a ← addressesOf regions x n
+  familyOf regions cells x n a
+
+-- any row
+unfoldable pub outcomeOf : Tables → List ℕ → Instruction → List ℕ → Outcome (List Write)
+outcomeOf t cells x reply =
+    cond (isCall x) (callOutcome (t .regions) (t .externs) (t .parameters) (t .arguments) x reply) (plainOutcome (t .regions) cells x reply)
+
+-- the row of that number
+unfoldable pub outcomeAt : Tables → List ℕ → ℕ → List ℕ → Outcome (List Write)
+outcomeAt t cells row reply = outcomeOf t cells (instructionAt (t .instructions) row) reply
+
+-- the answer `RowOutcome` of the code
+abbrev pub rowOutcome : RowOutcome → Outcome (List Write)
+rowOutcome (Refused n) = refuse n
+rowOutcome NoWrites = ok []
+rowOutcome (One w) = ok (w ∷ [])
+rowOutcome (Two v w) = ok (v ∷ w ∷ [])

@@ -1,0 +1,250 @@
+// What a row of each family does, from its operands' cells on.
+ghost use mathlib.Core.Path.{_≡_};
+ghost use Rattle.machine.specs.Families.{putInto, arithmeticOf, comparisonOf, logicOf, unaryOf, moveOf, exchangeOf, loadOf, storeOf, familyOf};
+ghost use Rattle.machine.specs.Outcome.{rowOutcome};
+ghost use Rattle.machine.specs.Reach.{There, TargetAndSource, Compared, Exchanged, Loading, Storing, Placed};
+use crate::address::Addresses;
+use crate::address::Indexed;
+use crate::address::NamedRegions;
+use crate::address::index_cell;
+use crate::cell::INTEGER_LITERAL;
+use crate::cell::Offset;
+use crate::cell::REAL_LITERAL;
+use crate::cell::Read;
+use crate::cell::Value;
+use crate::cell::read_cell;
+use crate::cell::read_offset;
+use crate::cell::read_source;
+use crate::operator;
+use crate::outcome::RowOutcome;
+use crate::outcome::Write;
+use tables::instruction;
+use tables::refusal::INDEX_PAST_LENGTH;
+use tables::refusal::NEGATIVE_SHIFT_COUNT;
+use tables::refusal::NO_RULE;
+use tables::refusal::ZERO_DIVISOR;
+use tables::rows::Instruction;
+use words::integer::Quotient;
+use words::kind;
+use words::width;
+use words::width::Shifted;
+
+// The source put into cell c. A literal's target is read for its kind alone; a reference is copied.
+fn put_into(cells: &[u64], c: usize, s: Value) -> RowOutcome
+    requires { ⌜ There (now cells) c ⌝ }
+    ensures { λ r. ⌜ rowOutcome r ≡ putInto (now (cells .entry)) c s ⌝ }
+{
+    let word = s.word;
+    let code = s.kind;
+    let kind = cells[2 * c];
+    if code == INTEGER_LITERAL {
+        if kind < kind::REAL {
+            return RowOutcome::One(Write {
+                cell: c,
+                kind,
+                word: width::low_bits(kind, word),
+            });
+        }
+        return RowOutcome::Refused(NO_RULE);
+    }
+    if code == REAL_LITERAL {
+        if kind == kind::REAL {
+            return RowOutcome::One(Write {
+                cell: c,
+                kind: kind::REAL,
+                word,
+            });
+        }
+        return RowOutcome::Refused(NO_RULE);
+    }
+    RowOutcome::One(Write {
+        cell: c,
+        kind: code,
+        word,
+    })
+}
+
+pub fn arithmetic(cells: &[u64], x: Instruction, a: Addresses) -> RowOutcome
+    requires { ⌜ TargetAndSource (now cells) x a ⌝ }
+    ensures { λ r. ⌜ rowOutcome r ≡ arithmeticOf (now (cells .entry)) x a ⌝ }
+{
+    let Read::Holds(d) = read_cell(cells, a.first) else {
+        return RowOutcome::Refused(NO_RULE);
+    };
+    let Read::Holds(s) = read_source(cells, x, a.source) else {
+        return RowOutcome::Refused(NO_RULE);
+    };
+    if !operator::arithmetic_kinds(d.kind, s.kind) {
+        return RowOutcome::Refused(NO_RULE);
+    }
+    let Quotient::Word(word) = operator::arithmetic_result(x.operator, d.kind, d.word, s.word)
+    else {
+        return RowOutcome::Refused(ZERO_DIVISOR);
+    };
+    RowOutcome::One(Write {
+        cell: a.first,
+        kind: d.kind,
+        word,
+    })
+}
+
+pub fn comparison(cells: &[u64], x: Instruction, a: Addresses) -> RowOutcome
+    requires { ⌜ Compared (now cells) x a ⌝ }
+    ensures { λ r. ⌜ rowOutcome r ≡ comparisonOf (now (cells .entry)) x a ⌝ }
+{
+    let Read::Holds(l) = read_cell(cells, a.second) else {
+        return RowOutcome::Refused(NO_RULE);
+    };
+    let Read::Holds(s) = read_source(cells, x, a.source) else {
+        return RowOutcome::Refused(NO_RULE);
+    };
+    if !operator::comparison_kinds(l.kind, s.kind) {
+        return RowOutcome::Refused(NO_RULE);
+    }
+    RowOutcome::One(Write {
+        cell: a.first,
+        kind: kind::BIT,
+        word: operator::comparison_result(x.operator, l.kind, l.word, s.word),
+    })
+}
+
+pub fn logic(cells: &[u64], x: Instruction, a: Addresses) -> RowOutcome
+    requires { ⌜ TargetAndSource (now cells) x a ⌝ }
+    ensures { λ r. ⌜ rowOutcome r ≡ logicOf (now (cells .entry)) x a ⌝ }
+{
+    let Read::Holds(d) = read_cell(cells, a.first) else {
+        return RowOutcome::Refused(NO_RULE);
+    };
+    let Read::Holds(s) = read_source(cells, x, a.source) else {
+        return RowOutcome::Refused(NO_RULE);
+    };
+    if !operator::logic_kinds(d.kind, s.kind) {
+        return RowOutcome::Refused(NO_RULE);
+    }
+    let Shifted::Word(word) = operator::logic_result(x.operator, d.kind, d.word, s.word) else {
+        return RowOutcome::Refused(NEGATIVE_SHIFT_COUNT);
+    };
+    RowOutcome::One(Write {
+        cell: a.first,
+        kind: d.kind,
+        word,
+    })
+}
+
+pub fn unary(cells: &[u64], x: Instruction, a: Addresses) -> RowOutcome
+    requires { ⌜ There (now cells) (a .first) ⌝ }
+    ensures { λ r. ⌜ rowOutcome r ≡ unaryOf (now (cells .entry)) x a ⌝ }
+{
+    let Read::Holds(d) = read_cell(cells, a.first) else {
+        return RowOutcome::Refused(NO_RULE);
+    };
+    if !operator::unary_kinds(x.operator, d.kind) {
+        return RowOutcome::Refused(NO_RULE);
+    }
+    RowOutcome::One(Write {
+        cell: a.first,
+        kind: d.kind,
+        word: operator::unary_result(x.operator, d.kind, d.word),
+    })
+}
+
+pub fn move_source(cells: &[u64], x: Instruction, a: Addresses) -> RowOutcome
+    requires { ⌜ TargetAndSource (now cells) x a ⌝ }
+    ensures { λ r. ⌜ rowOutcome r ≡ moveOf (now (cells .entry)) x a ⌝ }
+{
+    let Read::Holds(s) = read_source(cells, x, a.source) else {
+        return RowOutcome::Refused(NO_RULE);
+    };
+    put_into(cells, a.first, s)
+}
+
+pub fn exchange(cells: &[u64], a: Addresses) -> RowOutcome
+    requires { ⌜ Exchanged (now cells) a ⌝ }
+    ensures { λ r. ⌜ rowOutcome r ≡ exchangeOf (now (cells .entry)) a ⌝ }
+{
+    let Read::Holds(d) = read_cell(cells, a.first) else {
+        return RowOutcome::Refused(NO_RULE);
+    };
+    let Read::Holds(e) = read_cell(cells, a.second) else {
+        return RowOutcome::Refused(NO_RULE);
+    };
+    RowOutcome::Two(
+        Write {
+            cell: a.first,
+            kind: e.kind,
+            word: e.word,
+        },
+        Write {
+            cell: a.second,
+            kind: d.kind,
+            word: d.word,
+        },
+    )
+}
+
+pub fn load(regions: &[u64], cells: &[u64], n: NamedRegions, a: Addresses) -> RowOutcome
+    requires { ⌜ Loading (now regions) (now cells) n a ⌝ }
+    ensures { λ r. ⌜ rowOutcome r ≡ loadOf (now (regions .entry)) (now (cells .entry)) n a ⌝ }
+{
+    let Offset::Word(i) = read_offset(cells, a.source) else {
+        return RowOutcome::Refused(NO_RULE);
+    };
+    let Indexed::At(c) = index_cell(regions, n.second, i) else {
+        return RowOutcome::Refused(INDEX_PAST_LENGTH);
+    };
+    let Read::Holds(v) = read_cell(cells, c) else {
+        return RowOutcome::Refused(NO_RULE);
+    };
+    RowOutcome::One(Write {
+        cell: a.first,
+        kind: v.kind,
+        word: v.word,
+    })
+}
+
+pub fn store(
+    regions: &[u64],
+    cells: &[u64],
+    x: Instruction,
+    n: NamedRegions,
+    a: Addresses,
+) -> RowOutcome
+    requires { ⌜ Storing (now regions) (now cells) x n a ⌝ }
+    ensures { λ r. ⌜ rowOutcome r ≡ storeOf (now (regions .entry)) (now (cells .entry)) x n a ⌝ }
+{
+    let Offset::Word(i) = read_offset(cells, a.second) else {
+        return RowOutcome::Refused(NO_RULE);
+    };
+    let Read::Holds(s) = read_source(cells, x, a.source) else {
+        return RowOutcome::Refused(NO_RULE);
+    };
+    let Indexed::At(c) = index_cell(regions, n.first, i) else {
+        return RowOutcome::Refused(INDEX_PAST_LENGTH);
+    };
+    put_into(cells, c, s)
+}
+
+// By the family. Frame rows and NOP change nothing.
+pub fn family_outcome(
+    regions: &[u64],
+    cells: &[u64],
+    x: Instruction,
+    n: NamedRegions,
+    a: Addresses,
+) -> RowOutcome
+    requires { ⌜ Placed (now regions) (now cells) x n a ⌝ }
+    ensures { λ r. ⌜ rowOutcome r ≡ familyOf (now (regions .entry)) (now (cells .entry)) x n a ⌝ }
+{
+    let family = x.family;
+    match family {
+        instruction::ARITHMETIC => arithmetic(cells, x, a),
+        instruction::COMPARISON => comparison(cells, x, a),
+        instruction::BINARY_LOGIC => logic(cells, x, a),
+        instruction::UNARY => unary(cells, x, a),
+        instruction::MOVE => move_source(cells, x, a),
+        instruction::EXCHANGE => exchange(cells, a),
+        instruction::LOAD => load(regions, cells, n, a),
+        instruction::STORE => store(regions, cells, x, n, a),
+        _ => RowOutcome::NoWrites,
+    }
+}

@@ -1,0 +1,49 @@
+// A row that is no CALL: a refusal, or its writes.
+ghost use mathlib.Core.Path.{_≡_};
+ghost use Rattle.machine.specs.Outcome.{plainOutcome, rowOutcome};
+ghost use Rattle.machine.specs.Reach.{Opened};
+use crate::address::Indices;
+use crate::address::Names;
+use crate::address::named_regions;
+use crate::address::written_addresses;
+use crate::family::family_outcome;
+use tables::instruction;
+use tables::refusal::INDEX_PAST_LENGTH;
+use tables::refusal::NO_RULE;
+use tables::refusal::OTHER_INSTRUCTION;
+use tables::refusal::UNFIT_REPLY;
+use tables::rows::Instruction;
+
+// A cell's new kind and word.
+pub struct Write {
+    pub cell: usize,
+    pub kind: u64,
+    pub word: u64,
+}
+
+// The writes stand in order.
+pub enum RowOutcome {
+    Refused(u64),
+    NoWrites,
+    One(Write),
+    Two(Write, Write),
+}
+
+pub fn plain_outcome(regions: &[u64], cells: &[u64], x: Instruction, reply: &[u64]) -> RowOutcome
+    requires { ⌜ Opened (now regions) (now cells) x ⌝ }
+    ensures { λ r. ⌜ rowOutcome r ≡ plainOutcome (now (regions .entry)) (now (cells .entry)) x (now (reply .entry)) ⌝ }
+{
+    if (x.family == instruction::OTHER) & (x.operator == 1) {
+        return RowOutcome::Refused(OTHER_INSTRUCTION);
+    }
+    if reply.len() != 0 {
+        return RowOutcome::Refused(UNFIT_REPLY);
+    }
+    let Names::Declared(n) = named_regions(regions, x) else {
+        return RowOutcome::Refused(NO_RULE);
+    };
+    let Indices::Within(a) = written_addresses(regions, x, n) else {
+        return RowOutcome::Refused(INDEX_PAST_LENGTH);
+    };
+    family_outcome(regions, cells, x, n, a)
+}
