@@ -22,10 +22,10 @@ use Rattle.machine.proofs.AddressLaws.{named-within, written-within}
 -- ---- from the names and the indices
 
 -- an operand with a written index is a name
-first-named : (family : ℕ) → indexesFirst family ≡ true → namesFirst family ≡ true
+pub first-named : (family : ℕ) → indexesFirst family ≡ true → namesFirst family ≡ true
 first-named family e = lt-ltb family 8 (omega (arith, ltb-true family 7 e))
 
-second-named : (a b c d : Bool) → (a || (b || d)) ≡ true → (a || (b || (c || d))) ≡ true
+pub second-named : (a b c d : Bool) → (a || (b || d)) ≡ true → (a || (b || (c || d))) ≡ true
 second-named true b c d e = refl
 second-named false true c d e = refl
 second-named false false true d e = refl

@@ -17,7 +17,7 @@ use Rattle.machine.specs.Address.{addressOf, indexFits, indexedOf, named
 use Rattle.machine.specs.Operators.{integerResult, arithmeticResult, logicResult}
 use Rattle.machine.specs.Families.{write, one, offsetOf, putInto, arithmeticOf, logicOf, moveOf, exchangeOf, loadOf, familyOf}
 use Rattle.machine.specs.Outcome.{plainOutcome, outcomeOf}
-use Rattle.machine.specs.declared.outcome.Write.{Write}
+use Rattle.journal.specs.declared.cells.Write.{Write}
 
 -- the names a, n, o, r are 10 to 13; the cells are 0 and 1, 2 to 4, 5, 6 and 7
 abbrev pub regions : List ℕ

@@ -20,7 +20,7 @@ use Rattle.extern_call.specs.declared.resolved.ResolvedCallArgument.{ResolvedCa
 use Rattle.extern_call.specs.declared.resolved.ResolvedCallArgument.the-variants.{Vector, MemoryReference, Immediate}
 use Rattle.machine.specs.Address.{addressOf, indexFits}
 use Rattle.machine.specs.Families.{write}
-use Rattle.machine.specs.declared.outcome.Write.{Write}
+use Rattle.journal.specs.declared.cells.Write.{Write}
 use Rattle.machine.specs.declared.reply.Reply.{Reply}
 
 -- ---- the reply's rows

@@ -15,7 +15,7 @@ use Rattle.machine.specs.Operators.{arithmeticKinds, arithmeticResult, c
 use Rattle.machine.specs.declared.cell.Value.{Value}
 use Rattle.machine.specs.declared.cell.Offset.{Offset}
 use Rattle.machine.specs.declared.cell.Offset.the-variants.{Word, NoRule}
-use Rattle.machine.specs.declared.outcome.Write.{Write}
+use Rattle.journal.specs.declared.cells.Write.{Write}
 use Rattle.machine.specs.declared.address.NamedRegions.{NamedRegions}
 use Rattle.machine.specs.declared.address.Addresses.{Addresses}
 

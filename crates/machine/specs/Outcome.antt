@@ -12,7 +12,7 @@ use Rattle.tables.specs.declared.rows.Instruction.{Instruction}
 use Rattle.machine.specs.Address.{namesOf, addressesOf}
 use Rattle.machine.specs.Families.{familyOf}
 use Rattle.machine.specs.Call.{callOutcome}
-use Rattle.machine.specs.declared.outcome.Write.{Write}
+use Rattle.journal.specs.declared.cells.Write.{Write}
 use Rattle.machine.specs.declared.outcome.RowOutcome.{RowOutcome}
 use Rattle.machine.specs.declared.outcome.RowOutcome.the-variants.{Refused, NoWrites, One, Two}
 

@@ -9,7 +9,6 @@ ghost use Rattle.machine.specs.Call.{indexFound, scalarFits, hits, cellF
 ghost use Rattle.machine.specs.Reach.{FoundWithin, CellWithin, Hit, Judging, Replied};
 use crate::address::index_fits;
 use crate::address::region_start;
-use crate::outcome::Write;
 use crate::reply::REPLY_WIDTH;
 use crate::reply::Reply;
 use crate::reply::hits_argument;
@@ -21,6 +20,7 @@ use extern_call::call::CallResolution;
 use extern_call::call::resolve_at;
 use extern_call::call::resolves;
 use extern_call::resolved::ResolvedCallArgument;
+use journal::cells::Write;
 use tables::lookup::Found;
 use tables::lookup::lookup_region;
 use tables::refusal::INDEX_PAST_LENGTH;

@@ -17,7 +17,7 @@ use crate::cell::read_offset;
 use crate::cell::read_source;
 use crate::operator;
 use crate::outcome::RowOutcome;
-use crate::outcome::Write;
+use journal::cells::Write;
 use tables::instruction;
 use tables::refusal::INDEX_PAST_LENGTH;
 use tables::refusal::NEGATIVE_SHIFT_COUNT;

@@ -7,19 +7,13 @@ use crate::address::Names;
 use crate::address::named_regions;
 use crate::address::written_addresses;
 use crate::family::family_outcome;
+use journal::cells::Write;
 use tables::instruction;
 use tables::refusal::INDEX_PAST_LENGTH;
 use tables::refusal::NO_RULE;
 use tables::refusal::OTHER_INSTRUCTION;
 use tables::refusal::UNFIT_REPLY;
 use tables::rows::Instruction;
-
-// A cell's new kind and word.
-pub struct Write {
-    pub cell: usize,
-    pub kind: u64,
-    pub word: u64,
-}
 
 // The writes stand in order.
 pub enum RowOutcome {

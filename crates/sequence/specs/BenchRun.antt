@@ -1,0 +1,111 @@
+-- Programs on the bench's declarations, opened and run by a list of calls: what the ten bench lines are stated of.
+use Prim.Native.Nat.{ℕ, _*_}
+use mathlib.Core.List.{List, [], _∷_}
+use lib.ListN.{length, replicate}
+use lib.Ieee.{ofBits, lt}
+use Rattle.words.specs.Kind.{widthOf, fitsKind}
+use Rattle.words.specs.TwosComplement.{signed, wordOf}
+use Rattle.words.specs.Integer.{integerDivide, integerQuotient, integerIsNegative}
+use Rattle.words.specs.Width.{lowBits, shlAt, ashrAt, shifted, shiftLeft, shiftRightArithmetic}
+use Rattle.words.specs.Real.{size, realAboveEpsilon}
+use Rattle.tables.specs.Bench.{declarations}
+use Rattle.tables.specs.Outcome.{_>>=_, _>>_, need}
+use Rattle.tables.specs.First.{first, every}
+use Rattle.tables.specs.Tables.{Tables, tablesOf}
+use Rattle.tables.specs.Shape.{wholeRows, wholeTables}
+use Rattle.tables.specs.Allowed.{regionAllowed, nodeAllowed, regionsAllowed, externsAllowed, parametersAllowed, nodesAllowed, argumentsAllowed}
+use Rattle.tables.specs.Instruction.{operatorsOf, formAllowed, sourceAllowed, operandsAllowed, instructionAllowed, instructionsAllowed}
+use Rattle.tables.specs.Tree.{arityOf, treesFrom, inside, oneTree}
+use Rattle.tables.specs.Lookup.{lookupOf, lookupAmong, distinct}
+use Rattle.tables.specs.Load.{loadOf, allowedTables, distinctNames}
+use Rattle.tables.specs.Cells.{start, cellCount, cellsOf}
+use Rattle.type_check.specs.Rule.{arithmeticRule, sourceRule, logicSource, logicRule, moveRule, exchangeRule, loadKinds, loadRule, storeSource, storeRule, ruleOf}
+use Rattle.type_check.specs.Codes.{kindCode, codeOf, operandCode, sourceCode, rowRule}
+use Rattle.type_check.specs.Frame.{numberVerdict, nodeVerdict, treeVerdict, frameRule}
+use Rattle.type_check.specs.Check.{judgementOf, verdictOf, checkOf}
+use Rattle.journal.specs.Cells.{put, applied}
+use Rattle.journal.specs.Entries.{flatten, olds, log, closing, entered, journaled, entriesAt}
+use Rattle.journal.specs.Restore.{restored, undone, present}
+use Rattle.machine.specs.Kinds.{regionAmong, regionOf, declaredKind, zerosFrom, zeros}
+use Rattle.machine.specs.Cells.{readOf, sourceOf}
+use Rattle.machine.specs.Address.{addressOf, indexFits, indexedOf, namedOf, namesOf, writtenOf, addressesOf}
+use Rattle.machine.specs.Operators.{integerResult, arithmeticResult, logicResult}
+use Rattle.machine.specs.Families as families
+use Rattle.machine.specs.Outcome.{plainOutcome, outcomeOf, outcomeAt}
+use Rattle.session.specs.Prepare.{buffersFit, preparedOf}
+use Rattle.session.specs.Open.{noOther, callLook, callsLook, programLook, openTables}
+use Rattle.session.specs.Forward.{positionFits, roomFor, stepLook, rowLook, forwardLook, leaves, forwardTables}
+use Rattle.session.specs.Back.{journalLook, takeBackLook, backLook, backLeaves, backTables}
+use Rattle.session.specs.declared.answer.OpenAnswer.{OpenAnswer}
+use Rattle.session.specs.declared.answer.StepAnswer.{StepAnswer}
+use Rattle.sequence.specs.Calls.{Call, Session, opened, answers, end}
+
+-- ---- rows: family, operator, first name and index, second name and index, source form and words; every written index is 0
+
+abbrev row : ℕ → ℕ → ℕ → ℕ → ℕ → ℕ → List ℕ
+row family operator first second form source = family ∷ operator ∷ first ∷ 0 ∷ second ∷ 0 ∷ form ∷ source ∷ 0 ∷ []
+
+abbrev pub ADD-INTEGER : ℕ → ℕ → List ℕ
+ADD-INTEGER destination literal = row 0 0 destination 0 0 literal
+
+abbrev pub ADD-REAL : ℕ → ℕ → List ℕ
+ADD-REAL destination bits = row 0 0 destination 0 1 bits
+
+abbrev pub DIV : ℕ → ℕ → List ℕ
+DIV destination literal = row 0 2 destination 0 0 literal
+
+abbrev pub SHL : ℕ → ℕ → List ℕ
+SHL destination literal = row 2 3 destination 0 0 literal
+
+abbrev pub ASHR : ℕ → ℕ → List ℕ
+ASHR destination literal = row 2 5 destination 0 0 literal
+
+abbrev pub MOVE : ℕ → ℕ → List ℕ
+MOVE destination literal = row 4 0 destination 0 0 literal
+
+abbrev pub EXCHANGE : ℕ → ℕ → List ℕ
+EXCHANGE left right = row 5 0 left right 3 0
+
+abbrev pub LOAD : ℕ → ℕ → ℕ → List ℕ
+LOAD destination source offset = row 6 0 destination source 2 offset
+
+abbrev pub STORE : ℕ → ℕ → ℕ → List ℕ
+STORE destination offset source = row 7 0 destination offset 2 source
+
+-- a frame row whose expression is the one node of the table: a number with that imaginary part
+abbrev pub SET-PHASE : List ℕ
+SET-PHASE = 8 ∷ 1 ∷ 0 ∷ 1 ∷ 0 ∷ 0 ∷ 3 ∷ 0 ∷ 0 ∷ []
+
+abbrev pub number : ℕ → List ℕ
+number imaginary = 3 ∷ 0 ∷ imaginary ∷ []
+
+-- ---- a program, opened, and then the calls
+
+pub record Run : Type 0 where
+  pub opening : OpenAnswer
+  pub steps : List StepAnswer
+  pub memory : List ℕ
+
+-- The lent memory has two words for each of the eight cells, and the journal so many entries; both hold something else before. All that the calls rest on is unfolded.
+unfoldable pub run : List ℕ → List ℕ → ℕ → List Call → Run
+unfolding fitsKind widthOf lowBits signed wordOf integerIsNegative integerDivide integerQuotient shiftLeft shiftRightArithmetic shifted shlAt ashrAt
+    realAboveEpsilon size ofBits lt
+    _>>=_ _>>_ need first every loadOf wholeTables wholeRows allowedTables regionsAllowed regionAllowed externsAllowed parametersAllowed nodesAllowed
+    nodeAllowed argumentsAllowed instructionsAllowed instructionAllowed operatorsOf formAllowed sourceAllowed operandsAllowed oneTree inside treesFrom
+    arityOf distinctNames distinct lookupOf lookupAmong cellsOf cellCount start
+    checkOf verdictOf judgementOf rowRule ruleOf sourceCode operandCode codeOf kindCode arithmeticRule sourceRule logicRule logicSource moveRule
+    exchangeRule loadRule loadKinds storeRule storeSource frameRule treeVerdict nodeVerdict numberVerdict
+    put applied flatten olds log closing entered journaled entriesAt restored undone present
+    zeros zerosFrom declaredKind regionOf regionAmong outcomeAt outcomeOf plainOutcome namesOf namedOf addressesOf writtenOf indexedOf indexFits addressOf
+    readOf sourceOf families.familyOf families.offsetOf families.putInto families.arithmeticOf families.logicOf families.moveOf families.exchangeOf
+    families.loadOf arithmeticResult integerResult logicResult
+    openTables preparedOf buffersFit programLook noOther callsLook callLook forwardTables forwardLook rowLook stepLook roomFor positionFits leaves
+    backTables backLook takeBackLook journalLook backLeaves answers end
+run nodes program entries calls =
+    let t : Tables = tablesOf declarations [] [] nodes [] program in
+    let memory : List ℕ = replicate 16 9 in
+    let journal : List ℕ = replicate (3 * entries) 9 in
+    let s : Session = opened t memory journal in
+    let steps : List StepAnswer = answers t calls s in
+    let left : List ℕ = end t calls s .memory in
+    record { opening = openTables t memory (length journal) .answer; steps = steps; memory = left }

@@ -1,0 +1,5 @@
+pub mod Calls
+pub mod Replay
+pub mod Claim
+pub mod BenchRun
+pub mod Bench

@@ -1,0 +1,43 @@
+-- 01, Order: "1, 2, 3, 10, 4", with which open, forward and back begin.
+use Prim.Native.Nat.{ℕ, _*_, _/_, _%_, _≤_}
+use mathlib.Core.Bool.{Bool, _&&_}
+use mathlib.Core.List.{List}
+use mathlib.Core.Path.{_≡_}
+use lib.ListN.{length}
+use lib.Dec.{eqb, leb}
+use Rattle.tables.specs.Refusal.{bufferSize}
+use Rattle.tables.specs.Outcome.{Outcome, ok, refuse, _>>=_, _>>_, need}
+use Rattle.tables.specs.Tables.{Tables}
+use Rattle.tables.specs.Load.{loadOf}
+use Rattle.tables.specs.Cells.{cellCount, cellsOf}
+use Rattle.session.specs.declared.prepare.Prepared.{Prepared}
+use Rattle.session.specs.declared.prepare.Prepared.the-variants.{Cells, Refused}
+
+-- "The journal, at most 2,048 entries of three words": the entries in so many words
+abbrev pub entriesOf : ℕ → ℕ
+entriesOf words = words / 3
+
+-- 4: "lent buffer too short, or journal not whole entries or too long". memory and journal are lengths in words; a cell has two.
+unfoldable pub buffersFit : ℕ → ℕ → ℕ → Bool
+buffersFit cells memory journal = leb (2 * cells) memory && (eqb (journal % 3) 0 && leb (entriesOf journal) 2048)
+
+-- the number of cells
+unfoldable pub preparedOf : Tables → ℕ → ℕ → Outcome ℕ
+preparedOf t memory journal = do
+  loadOf t
+  n ← cellsOf (t .regions)
+  need (buffersFit n memory journal) bufferSize
+  ok n
+
+-- the answer `Prepared` of the code
+abbrev pub preparedOutcome : Prepared → Outcome ℕ
+preparedOutcome (Cells n) = ok n
+preparedOutcome (Refused number) = refuse number
+
+-- What the functions behind these looks ask for: the tables are loaded, the cells are those of their regions, and the journal has whole entries, not too many.
+pub record Ready (t : Tables) (cells : List ℕ) (journal : ℕ) : Type 0 where
+  pub loads : loadOf t ≡ ok tt
+  pub few : cellCount (t .regions) ≤ 4096
+  pub wide : length cells ≡ 2 * cellCount (t .regions)
+  pub whole : journal % 3 ≡ 0
+  pub short : entriesOf journal ≤ 2048

@@ -1,0 +1,154 @@
+-- What the typing rules say of the kinds that the machine meets: one computed test for each family over all codes, lifted to every code. Assumes nothing.
+use Prim.Native.Nat.{ℕ, _<_}
+use mathlib.Core.Bool.{Bool, true, false, not, cond, _||_, _&&_}
+use mathlib.Core.Path.{_≡_, refl, ap}
+use mathlib.Core.List.{List, [], _∷_}
+use mathlib.Core.Logic.{_⊎_, inl, inr, ⊎-elim}
+use native.Mathlib.Omega.{arith}
+use lib.Dec.{eqb, ltb}
+use Rattle.words.specs.Kind.{widthOf}
+use Rattle.tables.specs.First.{first, every}
+use Rattle.tables.specs.Rows.{regionKind}
+use Rattle.tables.specs.Lookup.{lookupRegion}
+use Rattle.tables.specs.declared.lookup.Found.{Found}
+use Rattle.tables.specs.declared.lookup.Found.the-variants.{At, Nothing}
+use Rattle.tables.specs.declared.rows.Instruction.{Instruction}
+use Rattle.tables.proofs.FirstLaws.{every-row}
+use Rattle.tables.proofs.Loaded.{both}
+use Rattle.type_check.specs.Judgement.{Judgement, pass, passes}
+use Rattle.type_check.specs.Numbers.{absent}
+use Rattle.type_check.specs.Rule as T
+use Rattle.type_check.specs.Codes.{foundCode, codeOf, referenceCode, operandCode}
+use Rattle.type_check.proofs.CodeLaws.{kind-below}
+use Rattle.machine.specs.Operators.{arithmeticKinds, comparisonKinds, logicKinds, unaryKinds}
+
+-- ---- tests that all hold
+
+abbrev pub allOf : List Bool → Bool
+allOf [] = true
+allOf (t ∷ ts) = t && allOf ts
+
+abbrev pub Trues : List Bool → Type 0
+Trues [] = Unit {0}
+Trues (t ∷ ts) = (t ≡ true) × Trues ts
+
+trues : (ts : List Bool) → allOf ts ≡ true → Trues ts
+trues [] e = tt
+trues (t ∷ ts) e = (both t (allOf ts) e .0, trues ts (both t (allOf ts) e .1))
+
+implied : (a b : Bool) → (not a || b) ≡ true → a ≡ true → b ≡ true
+implied true b e h = e
+implied false b e h = cc
+
+-- wherever the rule passes, what is wanted holds
+abbrev implies : Judgement → List Bool → Bool
+implies rule wants = not (passes rule) || allOf wants
+
+-- ---- codes: those below n, and `absent`. A name's code is one with n = 4, a source's, with the literals, one with n = 6.
+
+abbrev pub Code : ℕ → ℕ → Type 0
+Code n c = (c < n) ⊎ (c ≡ absent)
+
+abbrev everyCode : ℕ → (ℕ → Bool) → Bool
+everyCode n test = every test n && test absent
+
+each-code : (n : ℕ) (test : ℕ → Bool) → everyCode n test ≡ true → (c : ℕ) → Code n c → test c ≡ true
+each-code n test t c (inl h) = every-row test n (both (every test n) (test absent) t .0) c h
+each-code n test t c (inr e) = rw e (both (every test n) (test absent) t .1)
+
+-- a rule of one, two and three codes, the source's last
+given₁ : (n : ℕ) (rule : ℕ → Judgement) (wants : ℕ → List Bool) → everyCode n (λ s. implies (rule s) (wants s)) ≡ true
+    → (s : ℕ) → Code n s → rule s ≡ pass → Trues (wants s)
+given₁ n rule wants t s c h =
+    trues (wants s) (implied (passes (rule s)) (allOf (wants s)) (each-code n (λ s. implies (rule s) (wants s)) t s c) (ap passes h))
+
+given₂ : (rule : ℕ → ℕ → Judgement) (wants : ℕ → ℕ → List Bool) → everyCode 4 (λ d. everyCode 6 (λ s. implies (rule d s) (wants d s))) ≡ true
+    → (d s : ℕ) → Code 4 d → Code 6 s → rule d s ≡ pass → Trues (wants d s)
+given₂ rule wants t d s c = given₁ 6 (rule d) (wants d) (each-code 4 (λ d. everyCode 6 (λ s. implies (rule d s) (wants d s))) t d c) s
+
+given₃ : (rule : ℕ → ℕ → ℕ → Judgement) (wants : ℕ → ℕ → ℕ → List Bool)
+    → everyCode 4 (λ d. everyCode 4 (λ e. everyCode 6 (λ s. implies (rule d e s) (wants d e s)))) ≡ true
+    → (d e s : ℕ) → Code 4 d → Code 4 e → Code 6 s → rule d e s ≡ pass → Trues (wants d e s)
+given₃ rule wants t d e s c =
+    given₂ (rule d) (wants d) (each-code 4 (λ d. everyCode 4 (λ e. everyCode 6 (λ s. implies (rule d e s) (wants d e s)))) t d c) e s
+
+-- the codes of a row's operands
+pub name-code : (regions : List ℕ) (name : ℕ) → Code 4 (codeOf regions name)
+unfolding codeOf
+name-code regions name = at (lookupRegion regions name)
+  where
+    at : (f : Found) → Code 4 (foundCode regions f)
+    at (At k) = inl (kind-below (regionKind regions k))
+    at Nothing = inr refl
+
+pub operand-code : (regions : List ℕ) (x : Instruction) → Code 6 (operandCode regions x)
+unfolding operandCode
+operand-code regions x = at (eqb (x .«source_form») 0) (eqb (x .«source_form») 1)
+  where
+    at : (a b : Bool) → Code 6 (cond a 4 (cond b 5 (referenceCode regions x)))
+    at true b = inl (omega arith)
+    at false true = inl (omega arith)
+    at false false = ⊎-elim (λ h. inl (omega arith)) inr (name-code regions (x .«source_first»))
+
+-- ---- what is wanted of a family's codes: the operands are declared, and the machine has a rule for their kinds
+
+abbrev pub declared : ℕ → Bool
+declared code = ltb code 8
+
+abbrev pub arithmeticWants : ℕ → ℕ → List Bool
+arithmeticWants d s = declared d ∷ declared s ∷ arithmeticKinds d s ∷ eqb (widthOf d) 64 ∷ []
+
+pub arithmetic-wants : (d s : ℕ) → Code 4 d → Code 6 s → T.arithmeticRule d s ≡ pass → Trues (arithmeticWants d s)
+unfolding first every widthOf T.arithmeticRule T.arithmeticSource
+arithmetic-wants = given₂ T.arithmeticRule arithmeticWants refl
+
+abbrev pub comparisonWants : ℕ → ℕ → ℕ → List Bool
+comparisonWants d l s = declared d ∷ declared l ∷ declared s ∷ eqb d 0 ∷ comparisonKinds l s ∷ []
+
+pub comparison-wants : (d l s : ℕ) → Code 4 d → Code 4 l → Code 6 s → T.comparisonRule d l s ≡ pass → Trues (comparisonWants d l s)
+unfolding first every T.comparisonRule T.sourceRule
+comparison-wants = given₃ T.comparisonRule comparisonWants refl
+
+abbrev pub logicWants : ℕ → ℕ → List Bool
+logicWants d s = declared d ∷ declared s ∷ logicKinds d s ∷ []
+
+pub logic-wants : (d s : ℕ) → Code 4 d → Code 6 s → T.logicRule d s ≡ pass → Trues (logicWants d s)
+unfolding first every T.logicRule T.logicSource
+logic-wants = given₂ T.logicRule logicWants refl
+
+-- NEG is of the kinds of 64 bits. An operator is taken for a code.
+abbrev pub unaryWants : ℕ → ℕ → List Bool
+unaryWants operator d = declared d ∷ unaryKinds operator d ∷ (not (eqb operator 0) || eqb (widthOf d) 64) ∷ []
+
+pub unary-wants : (d operator : ℕ) → Code 4 d → Code 6 operator → T.unaryRule operator d ≡ pass → Trues (unaryWants operator d)
+unfolding first every widthOf T.unaryRule
+unary-wants = given₂ (λ d operator. T.unaryRule operator d) (λ d operator. unaryWants operator d) refl
+
+-- a source that is put into a cell fits as one that is compared
+abbrev pub moveWants : ℕ → ℕ → List Bool
+moveWants d s = declared d ∷ declared s ∷ comparisonKinds d s ∷ []
+
+pub move-wants : (d s : ℕ) → Code 4 d → Code 6 s → T.moveRule d s ≡ pass → Trues (moveWants d s)
+unfolding first every T.moveRule T.sourceRule
+move-wants = given₂ T.moveRule moveWants refl
+
+abbrev pub exchangeWants : ℕ → ℕ → List Bool
+exchangeWants d e = declared d ∷ declared e ∷ eqb d e ∷ []
+
+pub exchange-wants : (d e : ℕ) → Code 4 d → Code 4 e → T.exchangeRule d e ≡ pass → Trues (exchangeWants d e)
+unfolding first every T.exchangeRule
+exchange-wants d e c₁ c₂ = given₂ T.exchangeRule exchangeWants refl d e c₁ (⊎-elim (λ h. inl (omega arith)) inr c₂)
+
+abbrev pub loadWants : ℕ → ℕ → ℕ → List Bool
+loadWants d e o = declared d ∷ declared e ∷ declared o ∷ eqb o 1 ∷ eqb d e ∷ []
+
+pub load-wants : (d e o : ℕ) → Code 4 d → Code 4 e → Code 6 o → T.loadRule d e o ≡ pass → Trues (loadWants d e o)
+unfolding first every T.loadRule T.loadKinds
+load-wants = given₃ T.loadRule loadWants refl
+
+abbrev pub storeWants : ℕ → ℕ → ℕ → List Bool
+storeWants d o s = declared d ∷ declared o ∷ declared s ∷ eqb o 1 ∷ comparisonKinds d s ∷ []
+
+pub store-wants : (d o s : ℕ) → Code 4 d → Code 4 o → Code 6 s → T.storeRule d o s ≡ pass → Trues (storeWants d o s)
+unfolding first every T.storeRule T.storeSource
+store-wants = given₃ T.storeRule storeWants refl

@@ -1,0 +1,44 @@
+-- How many changes a row makes, whatever the cells hold: by its family alone, or in a CALL by its reply. Assumes nothing.
+use Prim.Native.Nat.{ℕ, _%_, _≤_}
+use mathlib.Core.Bool.{Bool, true, false, cond}
+use mathlib.Core.List.{List}
+use mathlib.Core.Path.{_≡_, ap, sym, _∙_}
+use lib.Dec.{eqb}
+use lib.ListN.{length}
+use borrow.Author.Tests.{leb-true}
+use Rattle.tables.specs.Outcome.{ok}
+use Rattle.tables.specs.Tables.{Tables}
+use Rattle.tables.specs.declared.rows.Instruction.{Instruction}
+use Rattle.tables.proofs.Loaded.{both}
+use Rattle.journal.specs.declared.cells.Write.{Write}
+use Rattle.machine.specs.Call.{replyRows, replyLengthFits, replyFits, replyWrites, callJudged, callOutcome}
+use Rattle.machine.specs.Outcome.{isCall, plainOutcome, outcomeOf}
+use Rattle.machine.proofs.Binds.{bound}
+use Rattle.machine.proofs.ReplyLaws.{judged-ok}
+use Rattle.machine.proofs.WritesLaws.{changesOf, writes-count, reply-writes-length}
+
+-- "exchange 2 .., call one per reply row"
+abbrev pub changesIn : Instruction → List ℕ → ℕ
+changesIn x reply = cond (isCall x) (replyRows reply) (changesOf (x .family))
+
+module _ (t : Tables) (x : Instruction) (reply : List ℕ) {ws : List Write} where
+  -- "a reply is up to 64 rows"
+  pub call-count : callOutcome (t .regions) (t .externs) (t .parameters) (t .arguments) x reply ≡ ok ws → (length ws ≡ replyRows reply) × (replyRows reply ≤ 64)
+  unfolding callOutcome replyFits replyLengthFits
+  call-count e =
+      let b = bound (callJudged (t .regions) (t .externs) (t .parameters) (t .arguments) x reply) _ ws e in
+      let q : replyWrites (t .regions) (t .parameters) (t .arguments) (b .value) reply ≡ ws = cc (b .rest) in
+      let j = judged-ok (t .regions) (t .externs) (t .parameters) (t .arguments) x (b .value) reply (b .given) in
+      let f = both (replyLengthFits reply) _ (j .fits) .0 in (
+        ap length (sym q) ∙ reply-writes-length (t .regions) (t .parameters) (t .arguments) (b .value) reply,
+        leb-true (replyRows reply) 64 (both (eqb (length reply % 4) 0) _ f .1),
+      )
+
+  pub outcome-count : (cells : List ℕ) → outcomeOf t cells x reply ≡ ok ws → length ws ≡ changesIn x reply
+  unfolding outcomeOf
+  outcome-count cells e = at (isCall x) e
+    where
+      at : (c : Bool) → cond c (callOutcome (t .regions) (t .externs) (t .parameters) (t .arguments) x reply) (plainOutcome (t .regions) cells x reply) ≡ ok ws
+          → length ws ≡ cond c (replyRows reply) (changesOf (x .family))
+      at true e = call-count e .0
+      at false e = writes-count (t .regions) cells x reply e

@@ -1,0 +1,78 @@
+-- Each family, on operands of the declared kinds: it is not refused with 18, and its writes keep the kinds. Assumes nothing.
+use Prim.Native.Nat.{ℕ}
+use mathlib.Core.List.{List}
+use mathlib.Core.Path.{sym, _∙_}
+use native.Mathlib.Omega.{arith}
+use borrow.Author.Tests.{eqb-true}
+use Rattle.words.specs.Kind.{widthOf}
+use Rattle.words.specs.Fits.{fits-of}
+use Rattle.tables.specs.declared.rows.Instruction.{Instruction}
+use Rattle.journal.specs.Each.{also}
+use Rattle.machine.specs.Cells.{sourceOf}
+use Rattle.machine.specs.Families as F
+use Rattle.machine.specs.declared.address.NamedRegions.{NamedRegions}
+use Rattle.machine.specs.declared.address.Addresses.{Addresses}
+use Rattle.machine.proofs.Ends.{Ends, Ruled, fine, bind, ruled}
+use Rattle.machine.proofs.WritesLaws.{single}
+use Rattle.soundness.specs.Sound.{Typed}
+use Rattle.soundness.proofs.Regions.{Region, Cell, indexed-ends}
+use Rattle.soundness.proofs.Results.{arithmetic-ends, comparison-below, logic-ends, unary-below}
+use Rattle.soundness.proofs.Values.{Holds, Keeps, kept, kept-below, read-ends, put-ends, offset-ends}
+use Rattle.soundness.proofs.Codes as C
+use Rattle.soundness.proofs.Codes.{Trues}
+
+-- From where the operands lie; d, e, s are the codes of first, second and source.
+module _ {regions cells : List ℕ} (typed : Typed regions cells) (x : Instruction) (n : NamedRegions) (a : Addresses) (d e s : ℕ) where
+  abbrev pub Source : Type 0
+  Source = Ends Ruled (Holds s) (sourceOf cells x (a .source))
+
+  pub arithmetic-sound : Cell regions d (a .first) → Source → Trues (C.arithmeticWants d s) → Keeps regions (F.arithmeticOf cells x a)
+  unfolding F.arithmeticOf
+  arithmetic-sound t src (_, (_, (kinds, (wide, _)))) =
+      bind (read-ends typed t) (λ v h. bind src (λ u k. ruled (rw (h .kind-is, k .kind-is) kinds)
+      (bind (arithmetic-ends (x .operator) (v .kind) (v .word) (u .word)) (λ z b.
+      fine (single (kept-below t (h .kind-is) (rw (eqb-true (widthOf d) 64 wide) b)))))))
+
+  pub comparison-sound : Cell regions d (a .first) → Cell regions e (a .second) → Source → Trues (C.comparisonWants d e s) → Keeps regions (F.comparisonOf cells x a)
+  unfolding F.comparisonOf
+  comparison-sound t l src (_, (_, (_, (bit, (kinds, _))))) =
+      let q = eqb-true d 0 bit in
+      bind (read-ends typed l) (λ v h. bind src (λ u k. ruled (rw (h .kind-is, k .kind-is) kinds)
+      (fine (single (kept-below t (sym q) (rw q (comparison-below (x .operator) (v .kind) (v .word) (u .word))))))))
+
+  pub logic-sound : Cell regions d (a .first) → Source → Trues (C.logicWants d s) → Keeps regions (F.logicOf cells x a)
+  unfolding F.logicOf
+  logic-sound t src (_, (_, (kinds, _))) =
+      bind (read-ends typed t) (λ v h. bind src (λ u k. ruled (rw (h .kind-is, k .kind-is) kinds)
+      (bind (rw (h .kind-is) (logic-ends d (v .word) (u .word) (fits-of d (v .word) (t .small) (h .below)) (x .operator))) (λ z f.
+      fine (single (kept t (h .kind-is) f))))))
+
+  pub unary-sound : Cell regions d (a .first) → Trues (C.unaryWants (x .operator) d) → Keeps regions (F.unaryOf cells x a)
+  unfolding F.unaryOf
+  unary-sound t (_, (kinds, (wide, _))) =
+      bind (read-ends typed t) (λ v h. ruled (rw (h .kind-is) kinds)
+      (fine (single (kept-below t (h .kind-is) (rw (h .kind-is) (unary-below (x .operator) d (v .word) wide))))))
+
+  pub move-sound : Cell regions d (a .first) → Source → Trues (C.moveWants d s) → Keeps regions (F.moveOf cells x a)
+  unfolding F.moveOf
+  move-sound t src (_, (_, (kinds, _))) = bind src (λ u k. put-ends typed u t k kinds)
+
+  pub exchange-sound : Cell regions d (a .first) → Cell regions e (a .second) → Trues (C.exchangeWants d e) → Keeps regions (F.exchangeOf cells a)
+  unfolding F.exchangeOf
+  exchange-sound t l (_, (_, (same, _))) =
+      let q = eqb-true d e same in
+      bind (read-ends typed t) (λ v h. bind (read-ends typed l) (λ u k.
+      fine (also (kept-below t {w = u .word} (k .kind-is ∙ sym q) (rw q (k .below))) (single (kept-below l {w = v .word} (h .kind-is ∙ q) (rw (← q) (h .below)))))))
+
+  pub load-sound : Cell regions d (a .first) → Region regions e (n .second) → Cell regions s (a .source) → Trues (C.loadWants d e s) → Keeps regions (F.loadOf regions cells n a)
+  unfolding F.loadOf
+  load-sound t g o (_, (_, (_, (integer, (same, _))))) =
+      let q = eqb-true d e same in
+      bind (offset-ends typed (rw (eqb-true s 1 integer) at o)) (λ i u. bind (indexed-ends i g (omega arith)) (λ c r.
+      bind (read-ends typed r) (λ v h. fine (single (kept-below t {w = v .word} (h .kind-is ∙ sym q) (rw q (h .below)))))))
+
+  pub store-sound : Region regions d (n .first) → Cell regions e (a .second) → Source → Trues (C.storeWants d e s) → Keeps regions (F.storeOf regions cells x n a)
+  unfolding F.storeOf
+  store-sound g o src (_, (_, (_, (integer, (kinds, _))))) =
+      bind (offset-ends typed (rw (eqb-true e 1 integer) at o)) (λ i u. bind src (λ v k.
+      bind (indexed-ends i g (omega arith)) (λ c r. put-ends typed v r k kinds)))

@@ -1,0 +1,91 @@
+-- Where a row's operands lie: its declared names have regions of the codes that the type check gives them, and its written indices cells of these kinds.
+-- And its source, by its form. Assumes nothing.
+use Prim.Native.Nat.{ℕ, _<_, _≤_}
+use mathlib.Core.Bool.{Bool, true, false, cond, _||_}
+use mathlib.Core.List.{List}
+use mathlib.Core.Path.{_≡_, refl, sym}
+use native.Mathlib.Omega.{arith}
+use lib.Dec.{eqb}
+use borrow.Author.Tests.{eqb-true, ne-eqb, le-ltb}
+use Rattle.tables.specs.Instruction.{formAllowed}
+use Rattle.tables.specs.declared.rows.Instruction.{Instruction}
+use Rattle.type_check.specs.Codes.{firstCode, secondCode, referenceCode, operandCode, sourceCode}
+use Rattle.machine.specs.Address.{namesFirst, indexesFirst, namesSecond, indexesSecond, namesSource, namesOf, addressesOf}
+use Rattle.machine.specs.declared.address.NamedRegions.{NamedRegions}
+use Rattle.machine.specs.declared.address.Addresses.{Addresses}
+use Rattle.machine.proofs.Reaches.{first-named, second-named}
+use Rattle.machine.proofs.Ends.{Ends, Ruled, fine, bind}
+use Rattle.soundness.proofs.Regions.{KindsAllowed, Region, Cell, named-ends, written-ends}
+
+-- the names that a row of family f uses are declared
+pub record Declared (regions : List ℕ) (x : Instruction) (f : ℕ) : Type 0 where
+  pub first : namesFirst f ≡ true → firstCode regions x < 8
+  pub second : namesSecond f ≡ true → secondCode regions x < 8
+  pub source : namesSource (x .«source_form») ≡ true → referenceCode regions x < 8
+
+-- their regions
+pub record Named (regions : List ℕ) (x : Instruction) (f : ℕ) (n : NamedRegions) : Type 0 where
+  pub first : namesFirst f ≡ true → Region regions (firstCode regions x) (n .first)
+  pub second : namesSecond f ≡ true → Region regions (secondCode regions x) (n .second)
+  pub source : namesSource (x .«source_form») ≡ true → Region regions (referenceCode regions x) (n .source)
+
+-- and the cells at its written indices
+pub record Placed (regions : List ℕ) (x : Instruction) (f : ℕ) (n : NamedRegions) (a : Addresses) : Type 0 where
+  pub named : Named regions x f n
+  pub first : indexesFirst f ≡ true → Cell regions (firstCode regions x) (a .first)
+  pub second : indexesSecond f ≡ true → Cell regions (secondCode regions x) (a .second)
+  pub source : namesSource (x .«source_form») ≡ true → Cell regions (referenceCode regions x) (a .source)
+
+-- ---- names and indices
+
+module _ {regions : List ℕ} (x : Instruction) where
+  pub names-ends : KindsAllowed regions → Declared regions x (x .family) → Ends Ruled (Named regions x (x .family)) (namesOf regions x)
+  unfolding namesOf
+  names-ends kinds d =
+      let f = x .family in
+      bind (named-ends kinds (x .«first_name») (namesFirst f) (d .first)) (λ a ha.
+      bind (named-ends kinds (x .«second_name») (namesSecond f) (d .second)) (λ b hb.
+      bind (named-ends kinds (x .«source_first») (namesSource (x .«source_form»)) (d .source)) (λ c hc.
+      fine (record { first = ha; second = hb; source = hc }))))
+
+  pub addresses-ends : (n : NamedRegions) → Named regions x (x .family) n → Ends Ruled (Placed regions x (x .family) n) (addressesOf regions x n)
+  unfolding addressesOf
+  addresses-ends n h =
+      let f = x .family in
+      bind (written-ends (indexesFirst f) (x .«first_index») (λ e. h .first (first-named f e)) (omega arith)) (λ i hi.
+      bind (written-ends (indexesSecond f) (x .«second_index») (λ e. h .second (second-named (eqb f 1) (eqb f 5) (eqb f 6) (eqb f 7) e)) (omega arith)) (λ j hj.
+      bind (written-ends (namesSource (x .«source_form»)) (x .«source_second») (h .source) (omega arith)) (λ k hk.
+      fine (record { named = h; first = hi; second = hj; source = hk }))))
+
+-- ---- the source, by its form
+
+-- "2 binary logic (no real literal)"
+pub logic-form : (form : ℕ) → (eqb form 0 || eqb form 2) ≡ true → form < 3
+logic-form form e = at (eqb form 0) refl e
+  where
+    at : (t : Bool) → eqb form 0 ≡ t → (t || eqb form 2) ≡ true → form < 3
+    at true z h = omega (arith, eqb-true form 0 z)
+    at false z h = omega (arith, eqb-true form 2 h)
+
+-- form 3 is no reference
+pub no-source : {A : Type 0} (form : ℕ) → eqb form 3 ≡ true → namesSource form ≡ true → A
+no-source form e h = absurd (omega (arith, eqb-true form 3 e, eqb-true form 2 h))
+
+module _ (regions : List ℕ) (x : Instruction) where
+  -- form 2 is a reference
+  pub reference-is : namesSource (x .«source_form») ≡ true → operandCode regions x ≡ referenceCode regions x
+  unfolding operandCode
+  reference-is e = rw (eqb-true (x .«source_form») 2 e)
+
+  -- "6 load (.. source = offset reference)": its code is an operand's too
+  pub source-is : formAllowed (x .family) (x .«source_form») ≡ true → sourceCode regions x ≡ operandCode regions x
+  unfolding sourceCode formAllowed
+  source-is h = at (eqb (x .family) 6) refl
+    where
+      at : (t : Bool) → eqb (x .family) 6 ≡ t → cond t (referenceCode regions x) (operandCode regions x) ≡ operandCode regions x
+      at true e = sym (reference-is (rw (eqb-true (x .family) 6 e) at h))
+      at false e = refl
+
+-- families 8 to 10 look nothing up
+pub past : (f : ℕ) → 8 ≤ f → (namesFirst f ≡ false) × (namesSecond f ≡ false)
+past f h = (le-ltb f 8 h, rw (ne-eqb f 1 (omega arith), ne-eqb f 5 (omega arith), ne-eqb f 6 (omega arith), ne-eqb f 7 (omega arith)))

@@ -1,0 +1,144 @@
+-- A row that is no CALL and passes the type check, on cells of the declared kinds: no 18, and every write keeps the kinds. Assumes nothing.
+use Prim.Native.Nat.{ℕ, zero, suc, _^_, _<_}
+use mathlib.Core.Bool.{true, false, not, false≢true}
+use mathlib.Core.List.{List}
+use mathlib.Core.Path.{_≡_, refl, sym, _∙_}
+use mathlib.Core.Logic.{inl}
+use native.Mathlib.Omega.{arith}
+use lib.ListN.{length}
+use lib.Dec.{eqb}
+use borrow.Author.Tests.{ltb-true}
+use Rattle.tables.specs.Refusal.{otherInstruction, unfitReply}
+use Rattle.tables.specs.Instruction.{operatorsOf, formAllowed}
+use Rattle.tables.specs.declared.rows.Instruction.{Instruction}
+use Rattle.type_check.specs.Judgement.{pass}
+use Rattle.type_check.specs.Rule.{ruleOf}
+use Rattle.type_check.specs.Codes.{firstCode, secondCode, referenceCode, operandCode, rowRule}
+use Rattle.journal.specs.Each.{none}
+use Rattle.machine.specs.Address.{namesSource}
+use Rattle.machine.specs.Cells.{sourceOf}
+use Rattle.machine.specs.Families.{familyOf}
+use Rattle.machine.specs.Outcome.{isOther, plainOutcome}
+use Rattle.machine.specs.declared.address.NamedRegions.{NamedRegions}
+use Rattle.machine.specs.declared.address.Addresses.{Addresses}
+use Rattle.machine.proofs.Ends.{Ends, Ruled, fine, bind, tested}
+use Rattle.soundness.specs.Sound.{Typed}
+use Rattle.soundness.proofs.Regions.{KindsAllowed}
+use Rattle.soundness.proofs.Operands.{Declared, Placed, names-ends, addresses-ends, logic-form, no-source, reference-is, source-is, past}
+use Rattle.soundness.proofs.Codes as C
+use Rattle.soundness.proofs.Families as F
+use Rattle.soundness.proofs.Values.{Holds, Keeps, source-ends}
+
+-- ---- what the loader and the type check say of a row
+
+pub record Accepted (regions : List ℕ) (x : Instruction) : Type 0 where
+  pub kinds : KindsAllowed regions
+  pub operator : x .operator < operatorsOf (x .family)
+  pub form : formAllowed (x .family) (x .«source_form») ≡ true
+  pub word : x .«source_first» < 2 ^ 64
+  pub rule : x .family < 8 → rowRule regions x ≡ pass
+
+-- ---- the row
+
+module _ {regions cells : List ℕ} (typed : Typed regions cells) (x : Instruction) (k : Accepted regions x) where
+  -- the codes of first, second and source
+  abbrev d : ℕ
+  d = firstCode regions x
+
+  abbrev e : ℕ
+  e = secondCode regions x
+
+  abbrev s : ℕ
+  s = operandCode regions x
+
+  dc : C.Code 4 d
+  dc = C.name-code regions (x .«first_name»)
+
+  ec : C.Code 4 e
+  ec = C.name-code regions (x .«second_name»)
+
+  sc : C.Code 6 s
+  sc = C.operand-code regions x
+
+  -- a row of family f: its names are declared, and from where its operands lie it is sound
+  abbrev Ready : ℕ → Type 0
+  Ready f = Declared regions x f × ((n : NamedRegions) (a : Addresses) → Placed regions x f n a → Keeps regions (familyOf regions cells x n a))
+
+  below : (c : ℕ) → C.declared c ≡ true → c < 8
+  below c h = ltb-true c 8 h
+
+  -- a source that is declared, where it is a reference
+  sourced : C.declared s ≡ true → namesSource (x .«source_form») ≡ true → referenceCode regions x < 8
+  sourced h q = rw (reference-is regions x q) at (below s h)
+
+  -- and read
+  source : {f : ℕ} {n : NamedRegions} {a : Addresses} → x .«source_form» < 3 → Placed regions x f n a → Ends Ruled (Holds s) (sourceOf cells x (a .source))
+  source {a = a} h p = source-ends typed x (a .source) (k .word) h (p .source)
+
+  -- by the family: "18 names" and "18 row's cells", "18 cell reached" are not met where its rule passes
+  ready : (f : ℕ) → x .family ≡ f → (f < 8 → ruleOf f (x .operator) d e s ≡ pass) → Ready f
+  unfolding ruleOf familyOf formAllowed operatorsOf
+  ready zero q h =
+      let w = C.arithmetic-wants d s dc sc (h (omega arith)) in
+      let l = ltb-true _ 3 (rw q at (k .form)) in (
+        record { first = λ t. below d (w .0); second = λ t. absurd (false≢true t); source = sourced (w .1 .0) },
+        λ n a p. rw q (F.arithmetic-sound typed x n a d e s (p .first refl) (source l p) w),
+      )
+  ready (suc zero) q h =
+      let w = C.comparison-wants d e s dc ec sc (h (omega arith)) in
+      let l = ltb-true _ 3 (rw q at (k .form)) in (
+        record { first = λ t. below d (w .0); second = λ t. below e (w .1 .0); source = sourced (w .1 .1 .0) },
+        λ n a p. rw q (F.comparison-sound typed x n a d e s (p .first refl) (p .second refl) (source l p) w),
+      )
+  ready (suc (suc zero)) q h =
+      let w = C.logic-wants d s dc sc (h (omega arith)) in
+      let l = logic-form (x .«source_form») (rw q at (k .form)) in (
+        record { first = λ t. below d (w .0); second = λ t. absurd (false≢true t); source = sourced (w .1 .0) },
+        λ n a p. rw q (F.logic-sound typed x n a d e s (p .first refl) (source l p) w),
+      )
+  ready (suc (suc (suc zero))) q h =
+      let o : x .operator < 2 = rw q at (k .operator) in
+      let w = C.unary-wants d (x .operator) dc (inl (omega arith)) (h (omega arith)) in (
+        record { first = λ t. below d (w .0); second = λ t. absurd (false≢true t); source = no-source (x .«source_form») (rw q at (k .form)) },
+        λ n a p. rw q (F.unary-sound typed x n a d e s (p .first refl) w),
+      )
+  ready (suc (suc (suc (suc zero)))) q h =
+      let w = C.move-wants d s dc sc (h (omega arith)) in
+      let l = ltb-true _ 3 (rw q at (k .form)) in (
+        record { first = λ t. below d (w .0); second = λ t. absurd (false≢true t); source = sourced (w .1 .0) },
+        λ n a p. rw q (F.move-sound typed x n a d e s (p .first refl) (source l p) w),
+      )
+  ready (suc (suc (suc (suc (suc zero))))) q h =
+      let w = C.exchange-wants d e dc ec (h (omega arith)) in (
+        record { first = λ t. below d (w .0); second = λ t. below e (w .1 .0); source = no-source (x .«source_form») (rw q at (k .form)) },
+        λ n a p. rw q (F.exchange-sound typed x n a d e s (p .first refl) (p .second refl) w),
+      )
+  ready (suc (suc (suc (suc (suc (suc zero)))))) q h =
+      let w = C.load-wants d e s dc ec sc (h (omega arith)) in
+      let z : namesSource (x .«source_form») ≡ true = rw q at (k .form) in (
+        record { first = λ t. below d (w .0); second = λ t. below e (w .1 .0); source = sourced (w .1 .1 .0) },
+        λ n a p. rw q (F.load-sound typed x n a d e s (p .first refl) (p .named .second refl) (rw (reference-is regions x z) (p .source z)) w),
+      )
+  ready (suc (suc (suc (suc (suc (suc (suc zero))))))) q h =
+      let w = C.store-wants d e s dc ec sc (h (omega arith)) in
+      let l = ltb-true _ 3 (rw q at (k .form)) in (
+        record { first = λ t. below d (w .0); second = λ t. below e (w .1 .0); source = sourced (w .1 .1 .0) },
+        λ n a p. rw q (F.store-sound typed x n a d e s (p .named .first refl) (p .second refl) (source l p) w),
+      )
+  ready (suc (suc (suc (suc (suc (suc (suc (suc m)))))))) q h =
+      let (a, b) = past (suc (suc (suc (suc (suc (suc (suc (suc m)))))))) (omega arith) in (
+        record { first = λ t. absurd (false≢true (sym a ∙ t)); second = λ t. absurd (false≢true (sym b ∙ t)); source = no-source (x .«source_form») (rw q at (k .form)) },
+        λ n a p. rw q (fine none),
+      )
+
+  rule : x .family < 8 → ruleOf (x .family) (x .operator) d e s ≡ pass
+  unfolding rowRule
+  rule l = rw (source-is regions x (k .form)) at (k .rule l)
+
+  -- "9; .. else 17, 18 names, 14 written indices", and the families' looks
+  pub plain-sound : (reply : List ℕ) → Keeps regions (plainOutcome regions cells x reply)
+  unfolding plainOutcome
+  plain-sound reply =
+      let r = ready (x .family) refl rule in
+      tested otherInstruction (not (isOther x)) (omega arith) (λ o. tested unfitReply (eqb (length reply) 0) (omega arith) (λ l.
+      bind (names-ends x (k .kinds) (r .0)) (λ n g. bind (addresses-ends x n g) (λ a p. r .1 n a p))))

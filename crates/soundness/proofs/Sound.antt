@@ -1,0 +1,94 @@
+-- The theorem: on cells of the declared kinds, no row of accepted tables is refused with 18, and its writes are good. Assumes nothing.
+use Prim.Native.Nat.{ℕ, _+_, _*_, _<_}
+use mathlib.Core.Bool.{Bool, true, false, cond}
+use mathlib.Core.List.{List}
+use mathlib.Core.Path.{_≡_, refl}
+use native.Mathlib.Omega.{arith}
+use lib.Dec.{ltb}
+use borrow.Author.Tests.{ltb-true}
+use Rattle.tables.specs.Refusal.{noRule}
+use Rattle.tables.specs.Outcome.{Outcome, ok, refuse}
+use Rattle.tables.specs.Tables.{Tables}
+use Rattle.tables.specs.Rows.{instructionRows, instructionAt}
+use Rattle.tables.specs.Instruction.{operatorsOf, formAllowed, instructionAllowed}
+use Rattle.tables.specs.declared.rows.Instruction.{Instruction}
+use Rattle.tables.proofs.Loaded.{Loaded, loaded, both, region-kind, instruction-allowed}
+use Rattle.type_check.proofs.CheckLaws.{rule-passes}
+use Rattle.journal.specs.declared.cells.Write.{Write}
+use Rattle.journal.specs.Each.{Each}
+use Rattle.journal.proofs.CellsLaws.{each-map}
+use Rattle.machine.specs.Call.{callOutcome}
+use Rattle.machine.specs.Outcome.{isCall, plainOutcome, outcomeOf, outcomeAt}
+use Rattle.machine.proofs.Ends.{gives, no-18}
+use Rattle.soundness.specs.Sound.{Checked, Typed, GoodWrite, Sound}
+use Rattle.soundness.proofs.Regions.{KindsAllowed}
+use Rattle.soundness.proofs.Zeros.{zeros-typed}
+use Rattle.soundness.proofs.Values.{Kept, Keeps}
+use Rattle.soundness.proofs.Rows.{Accepted, plain-sound}
+use Rattle.soundness.proofs.CallRefusals.{call-ends}
+use Rattle.soundness.proofs.Calls.{call-good}
+
+module _ (t : Tables) (checked : Checked t) where
+  tables : Loaded t
+  tables = loaded t (checked .loads)
+
+  kinds : KindsAllowed (t .regions)
+  kinds = region-kind tables
+
+  -- what was looked at of a row
+  accepted : (row : ℕ) → row < instructionRows (t .instructions) → Accepted (t .regions) (instructionAt (t .instructions) row)
+  unfolding instructionAllowed
+  accepted row h =
+      let x = instructionAt (t .instructions) row in
+      let (o, e) = both (ltb (x .operator) (operatorsOf (x .family))) _ (instruction-allowed tables row h) in
+      record {
+        kinds = kinds;
+        operator = ltb-true (x .operator) (operatorsOf (x .family)) o;
+        form = both (formAllowed (x .family) (x .«source_form»)) _ e .0;
+        word = checked .words (row * 9 + 7);
+        rule = rule-passes (t .regions) (t .nodes) (t .instructions) (checked .passes) row h;
+      }
+
+  -- a write of a row that is no CALL
+  kept-good : (x : Instruction) → isCall x ≡ false → (w : Write) → Kept (t .regions) w → GoodWrite t x w
+  kept-good x plain w k = record {
+    there = k .there;
+    fits = k .fits;
+    allowed = λ call. (let z : _≡_ {A = ℕ} 0 1 = cc in absurd (omega arith));
+  }
+
+  module _ (cells : List ℕ) (typed : Typed (t .regions) cells) (row : ℕ) (h : row < instructionRows (t .instructions)) (reply : List ℕ) where
+    abbrev x : Instruction
+    x = instructionAt (t .instructions) row
+
+    abbrev called : Outcome (List Write)
+    called = callOutcome (t .regions) (t .externs) (t .parameters) (t .arguments) x reply
+
+    abbrev plain : Outcome (List Write)
+    plain = plainOutcome (t .regions) cells x reply
+
+    plain-ends : Keeps (t .regions) plain
+    plain-ends = plain-sound typed x (accepted row h) reply
+
+    row-ruled : outcomeAt t cells row reply ≡ refuse noRule → ⊥
+    unfolding outcomeAt outcomeOf
+    row-ruled e = at (isCall x) e
+      where
+        at : (c : Bool) → cond c called plain ≡ refuse noRule → ⊥
+        at true e = no-18 (call-ends (t .regions) (t .externs) (t .parameters) (t .arguments) x reply) e
+        at false e = no-18 plain-ends e
+
+    row-good : (ws : List Write) → outcomeAt t cells row reply ≡ ok ws → Each (GoodWrite t x) ws
+    unfolding outcomeAt outcomeOf
+    row-good ws e = at (isCall x) refl e
+      where
+        at : (c : Bool) → isCall x ≡ c → cond c called plain ≡ ok ws → Each (GoodWrite t x) ws
+        at true q e = call-good t x kinds reply ws e
+        at false q e = each-map (kept-good x q) (gives ws plain-ends e)
+
+  pub sound : Sound t
+  sound = record {
+    starts = zeros-typed (t .regions) kinds;
+    ruled = λ cells row reply typed h. row-ruled cells typed row h reply;
+    good = λ cells row reply ws typed h. row-good cells typed row h reply ws;
+  }

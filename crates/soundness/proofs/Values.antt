@@ -1,0 +1,96 @@
+-- Cells of the declared kinds, as they are read and written: no 18, and what is put into a cell keeps its kind. Assumes nothing.
+use Prim.Native.Nat.{ℕ, _^_, _<_}
+use mathlib.Core.Bool.{Bool, true, false, cond}
+use mathlib.Core.List.{List}
+use mathlib.Core.Path.{_≡_, refl, sym, _∙_}
+use native.Mathlib.Omega.{arith}
+use lib.Dec.{eqb, ltb}
+use borrow.Author.Tests.{eqb-true, eqb-false, eq-eqb}
+use Rattle.words.specs.Kind.{widthOf, fitsKind}
+use Rattle.words.specs.Width.{lowBits}
+use Rattle.words.specs.Fits.{fits-of, fits-below, lowBits-fits}
+use Rattle.tables.specs.Refusal.{noRule}
+use Rattle.tables.specs.Outcome.{Outcome, ok, _>>_, need}
+use Rattle.tables.specs.Cells.{cellCount}
+use Rattle.tables.specs.declared.rows.Instruction.{Instruction}
+use Rattle.type_check.specs.Codes.{codeOf, operandCode}
+use Rattle.journal.specs.declared.cells.Write.{Write}
+use Rattle.journal.specs.Each.{Each}
+use Rattle.machine.specs.Address.{namesSource}
+use Rattle.machine.specs.Cells.{integerLiteral, realLiteral, cellKind, readOf, sourceOf}
+use Rattle.machine.specs.Operators.{comparisonKinds}
+use Rattle.machine.specs.Families as F
+use Rattle.machine.specs.declared.cell.Value.{Value}
+use Rattle.machine.proofs.Ends.{Ends, Ruled, fine, bind, ruled}
+use Rattle.machine.proofs.WritesLaws.{single}
+use Rattle.soundness.specs.Sound.{Fits, Typed}
+use Rattle.soundness.proofs.Regions.{Cell}
+
+-- ---- values and writes
+
+-- a value of code k, a literal's too
+pub record Holds (k : ℕ) (v : Value) : Type 0 where
+  pub kind-is : v .kind ≡ k
+  pub below : v .word < 2 ^ widthOf k
+
+-- a write to a cell that is there, of its declared kind
+pub record Kept (regions : List ℕ) (w : Write) : Type 0 where
+  pub there : w .cell < cellCount regions
+  pub fits : Fits regions w
+
+pub kept : {regions : List ℕ} {k c : ℕ} → Cell regions k c → {k′ w : ℕ} → k′ ≡ k → fitsKind k w ≡ true → Kept regions (F.write c k′ w)
+kept t e f = record { there = t .there; fits = record { kind = e ∙ sym (t .is); word = rw e f } }
+
+-- the same by the word's bound
+pub kept-below : {regions : List ℕ} {k c : ℕ} → Cell regions k c → {k′ w : ℕ} → k′ ≡ k → w < 2 ^ widthOf k → Kept regions (F.write c k′ w)
+kept-below {regions} {k} t {k′} {w} e h = kept t e (fits-of k w (t .small) h)
+
+-- no 18, and writes that keep the kinds
+abbrev pub Keeps : List ℕ → Outcome (List Write) → Type 0
+Keeps regions o = Ends Ruled (Each (Kept regions)) o
+
+module _ {regions cells : List ℕ} (typed : Typed regions cells) where
+  -- ---- what is read
+
+  module _ {k c : ℕ} (t : Cell regions k c) where
+    cell-kind : cellKind cells c ≡ k
+    cell-kind = typed .each c (t .there) .kind ∙ t .is
+
+    pub read-ends : Ends Ruled (Holds k) (readOf cells c)
+    unfolding readOf
+    read-ends =
+        let f = typed .each c (t .there) .word in
+        ruled f (fine (record { kind-is = cell-kind; below = rw cell-kind at (fits-below (cellKind cells c) _ f) }))
+
+  -- a source's value has the code that the type check gives it
+  pub source-ends : (x : Instruction) (c : ℕ) → x .«source_first» < 2 ^ 64 → x .«source_form» < 3
+      → (namesSource (x .«source_form») ≡ true → Cell regions (codeOf regions (x .«source_first»)) c)
+      → Ends Ruled (Holds (operandCode regions x)) (sourceOf cells x c)
+  unfolding operandCode sourceOf widthOf
+  source-ends x c w f t = at (eqb (x .«source_form») 0) (eqb (x .«source_form») 1) refl refl
+    where
+      at : (a b : Bool) → eqb (x .«source_form») 0 ≡ a → eqb (x .«source_form») 1 ≡ b
+          → Ends Ruled (Holds (cond a integerLiteral (cond b realLiteral (codeOf regions (x .«source_first»)))))
+          (cond a (ok (record { kind = integerLiteral; word = x .«source_first» })) (cond b (ok (record { kind = realLiteral; word = x .«source_first» })) (readOf cells c)))
+      at true b ea eb = fine (record { kind-is = refl; below = w })
+      at false true ea eb = fine (record { kind-is = refl; below = w })
+      at false false ea eb = read-ends (t (eq-eqb (x .«source_form») 2 (omega (arith, eqb-false (x .«source_form») 0 ea, eqb-false (x .«source_form») 1 eb))))
+
+  -- a source that fits the kind of the cell that it is put into
+  pub put-ends : {k s c : ℕ} (v : Value) → Cell regions k c → Holds s v → comparisonKinds k s ≡ true → Keeps regions (F.putInto cells c v)
+  unfolding F.putInto widthOf
+  put-ends {k} {s} {c} v t h e = rw (h .kind-is, cell-kind t) (at (eqb s integerLiteral) (eqb s realLiteral) refl refl e)
+    where
+      at : (a b : Bool) → eqb s integerLiteral ≡ a → eqb s realLiteral ≡ b → cond a (ltb k 3) (cond b (eqb k 3) (eqb k s)) ≡ true
+          → Keeps regions (cond a (need (ltb k 3) noRule >> ok (F.one c k (lowBits (widthOf k) (v .word))))
+          (cond b (need (eqb k 3) noRule >> ok (F.one c 3 (v .word))) (ok (F.one c s (v .word)))))
+      at true b ea eb e = ruled e (fine (single (kept t refl (lowBits-fits k (v .word) (t .small)))))
+      at false true ea eb e =
+          let q = eqb-true k 3 e in
+          let l : v .word < 2 ^ widthOf 3 = rw (eqb-true s realLiteral eb) at (h .below) in
+          ruled e (fine (single (kept-below t {w = v .word} (sym q) (rw q l))))
+      at false false ea eb e = let q = eqb-true k s e in fine (single (kept-below t {w = v .word} (sym q) (rw q (h .below))))
+
+  pub offset-ends : {c : ℕ} → Cell regions 1 c → Ends Ruled (λ i. Unit {0}) (F.offsetOf cells c)
+  unfolding F.offsetOf
+  offset-ends t = bind (read-ends t) (λ v h. ruled (eq-eqb (v .kind) 1 (h .kind-is)) (fine tt))
