@@ -9,7 +9,7 @@ use console::check::check;
 use tables::refusal::TYPE_ERROR;
 use type_check::error::TypeError;
 
-fn write_error(error: &mut [u64; 6], e: TypeError)
+pub fn write_error(error: &mut [u64; 6], e: TypeError)
     ensures { λ _. ⌜ now (error .exit) ≡ sets (now (error .entry)) 0 (errorWords e) ⌝ }
 {
     error[0] = e.kind;

@@ -1,5 +1,9 @@
 // The public calls for C, as console.h declares them. Each returns 0 or the refusal's number, and writes an out-array only where the header says so.
 pub mod access;
+pub mod back;
 pub mod check;
+pub mod forward;
+pub mod open;
+pub mod position;
 pub mod reference;
 pub mod resolve;

@@ -5,3 +5,4 @@ pub mod AddressLaws
 pub mod Reaches
 pub mod WritesLaws
 pub mod ReplyLaws
+pub mod KindsLaws

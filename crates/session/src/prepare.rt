@@ -1,5 +1,6 @@
 // The looks that open, forward and back begin with.
 ghost use mathlib.Core.Path.{_≡_};
+ghost use Prim.Native.Nat.{_≤_};
 ghost use Rattle.tables.specs.Tables.{tablesOf};
 ghost use Rattle.session.specs.Prepare.{buffersFit, preparedOf, preparedOutcome};
 use journal::cells::CELL_WIDTH;
@@ -18,4 +19,39 @@ pub const ENTRY_LIMIT: usize = 2048;
 pub enum Prepared {
     Cells(usize),
     Refused(u64),
+}
+
+// Whether memory and journal, so many words each, are long enough, whole and not too long.
+fn buffers_fit(cells: usize, memory: usize, journal: usize) -> bool
+    requires { ⌜ cells ≤ 4096 ⌝ }
+    ensures { λ r. ⌜ r ≡ buffersFit cells memory journal ⌝ }
+{
+    (CELL_WIDTH * cells <= memory)
+        & ((journal % ENTRY_WIDTH == 0) & (journal / ENTRY_WIDTH <= ENTRY_LIMIT))
+}
+
+// 1, 2, 3, 10 and 4, of memory and journal by their lengths in words.
+pub fn prepare(
+    regions: &[u64],
+    externs: &[u64],
+    parameters: &[u64],
+    nodes: &[u64],
+    arguments: &[u64],
+    instructions: &[u64],
+    memory: usize,
+    journal: usize,
+) -> Prepared
+    ensures { λ r. ⌜ preparedOutcome r ≡ preparedOf (tablesOf (now (regions .entry)) (now (externs .entry)) (now (parameters .entry)) (now (nodes .entry)) (now (arguments .entry)) (now (instructions .entry))) memory journal ⌝ }
+{
+    let loaded = load_tables(regions, externs, parameters, nodes, arguments, instructions);
+    if let Load::Refused(number) = loaded {
+        return Prepared::Refused(number);
+    }
+    let Cells::Count(cells) = cell_count(regions) else {
+        return Prepared::Refused(TOO_MANY_CELLS);
+    };
+    if !buffers_fit(cells, memory, journal) {
+        return Prepared::Refused(BUFFER_SIZE);
+    }
+    Prepared::Cells(cells)
 }

@@ -1,5 +1,5 @@
 -- What the verdict on a program says: an error is of one of its rows; where it is accepted, each row passes. And a row's judgement, by
--- its family. Assumes nothing.
+-- its family; and what the check asks for, from the loader's acceptance. Assumes nothing.
 use Prim.Native.Nat.{ℕ, _+_, _<_, _≤_}
 use mathlib.Core.Bool.{true, false, cond}
 use mathlib.Core.List.{List}
@@ -9,16 +9,22 @@ use native.Mathlib.Omega.{arith}
 use borrow.Author.Tests.{eq-eqb, ne-eqb}
 use lib.Dec.{eqb}
 use lib.ListN.{List·getD-eq-default}
+use Rattle.tables.specs.Tables.{Tables}
 use Rattle.tables.specs.Rows.{instructionRows, instructionAt}
 use Rattle.tables.specs.declared.rows.Instruction.{Instruction}
+use Rattle.tables.proofs.Loaded.{Loaded, frame-inside}
 use Rattle.type_check.specs.Judgement.{Judgement, pass, fail, verdictAt}
 use Rattle.type_check.specs.Rule.{rules, ruleOf}
 use Rattle.type_check.specs.Codes.{firstCode, secondCode, referenceCode, operandCode, sourceCode, rowRule}
 use Rattle.type_check.specs.Frame.{frameRule}
-use Rattle.type_check.specs.Check.{judgementOf, verdictOf, isError, rowVerdict, checkOf}
+use Rattle.type_check.specs.Check.{judgementOf, verdictOf, isError, rowVerdict, checkOf, FrameInside, FramesInside}
 use Rattle.type_check.specs.declared.error.TypeError.{TypeError}
 use Rattle.type_check.specs.declared.error.Verdict.the-variants.{Accepted, Error}
 use Rattle.type_check.proofs.Searches.{searched}
+
+-- every frame's range lies in the node table
+pub loaded-frames : {t : Tables} → Loaded t → FramesInside (t .nodes) (t .instructions)
+loaded-frames l = record { row = λ k h. record { inside = frame-inside l k h } }
 
 module _ (regions nodes : List ℕ) (x : Instruction) where
   -- a row that is no frame, by its rule

@@ -3,7 +3,7 @@ use Rattle.tables.specs.Outcome.{seen}
 use Rattle.tables.specs.Load.{loadOutcome}
 use Rattle.tables.proofs.Loaded.{loaded}
 use Rattle.console.specs.Check.{verdictAnswer, checkTables}
-use Rattle.console.proofs.Facts.{frames-inside}
+use Rattle.type_check.proofs.CheckLaws.{loaded-frames}
 use borrow.Author.Needs.{needs}
 use Rattle.console.proofs.check.check.Statement.{statement}
 use Rattle.console.proofs.check.check.Tie as tie
@@ -27,7 +27,7 @@ enum-told : tie.Need-enum-told
 enum-told c = search needs
 
 check-program-requires : tie.Need-check-program-requires
-check-program-requires c κs = frames-inside (loaded _ (seen loadOutcome (c .before .before .load-tables .ensures) (c .enum-told .given .1)))
+check-program-requires c κs = loaded-frames (loaded _ (seen loadOutcome (c .before .before .load-tables .ensures) (c .enum-told .given .1)))
 
 verdict-answer-requires : tie.Need-verdict-answer-requires
 verdict-answer-requires c κs = search needs

@@ -1,0 +1,57 @@
+use mathlib.Core.Path.{ap}
+use Rattle.session.specs.Forward.{Left}
+use Rattle.console_c.specs.Forward.{forwardedOf, consoleForward}
+use borrow.Author.Needs.{needs}
+use Rattle.console_c.proofs.forward.console_forward.Statement.{statement}
+use Rattle.console_c.proofs.forward.console_forward.Tie as tie
+
+position-in-requires : tie.Need-position-in-requires
+position-in-requires c κs = search needs
+
+forward-requires : tie.Need-forward-requires
+forward-requires c κs = search needs
+
+enum-known-answer : tie.Need-enum-known-answer
+enum-known-answer c = search needs
+
+enum-known-answer-2 : tie.Need-enum-known-answer-2
+enum-known-answer-2 c = search needs
+
+write-position-requires : tie.Need-write-position-requires
+write-position-requires c κs = search needs
+
+same-length : tie.Need-same-length
+same-length c = search needs
+
+same-length-2 : tie.Need-same-length-2
+same-length-2 c = search needs
+
+returns : tie.Need-returns
+unfolding consoleForward
+returns c = rw (c .before .answer .given .1, c .before .before .before .before .before .before .before .before .before .before .position-in .ensures) at (ap (λ (l : Left). forwardedOf l (c .before .before .before .before .before .before .before .before .before .before .before .before .before .before .before .before .before .before .before .before .before .args .position .now)) (c .before .before .before .before .before .before .before .forward .ensures))
+
+same-length-3 : tie.Need-same-length-3
+same-length-3 c = search needs
+
+same-length-4 : tie.Need-same-length-4
+same-length-4 c = search needs
+
+returns-2 : tie.Need-returns-2
+unfolding consoleForward
+returns-2 c = rw (c .write-position .ensures) (rw (c .before .before .before .answer2 .given .1, c .before .before .before .before .before .before .before .before .before .before .before .before .position-in .ensures) at (ap (λ (l : Left). forwardedOf l (c .before .before .before .before .before .before .before .before .before .before .before .before .before .before .before .before .before .before .before .before .before .before .before .args .position .now)) (c .before .before .before .before .before .before .before .before .before .forward .ensures)))
+
+pub console-forward-spec : {M : Type 1} → statement M
+console-forward-spec =
+    tie.close
+    (tie.spec
+    position-in-requires
+    forward-requires
+    enum-known-answer
+    enum-known-answer-2
+    write-position-requires
+    same-length
+    same-length-2
+    returns
+    same-length-3
+    same-length-4
+    returns-2)

@@ -1,0 +1,22 @@
+-- console_back: "position in; on 0 the new one".
+use Prim.Native.Nat.{ℕ}
+use mathlib.Core.List.{List}
+use Rattle.tables.specs.Tables.{Tables}
+use Rattle.session.specs.Answer.{stepNumber}
+use Rattle.session.specs.Back.{Back, backTables}
+use Rattle.console_c.specs.Position.{positionIn, positionAfter}
+
+-- the number returned, and memory and the position at exit
+pub record WentBack : Type 0 where
+  pub number : ℕ
+  pub memory : List ℕ
+  pub position : List ℕ
+
+abbrev pub wentBack : ℕ → List ℕ → List ℕ → WentBack
+wentBack number memory position = record { number = number; memory = memory; position = position }
+
+abbrev pub wentBackOf : Back → List ℕ → WentBack
+wentBackOf b position = wentBack (stepNumber (b .answer)) (b .memory) (positionAfter (b .answer) position)
+
+unfoldable pub consoleBack : Tables → List ℕ → List ℕ → List ℕ → WentBack
+consoleBack t memory journal position = wentBackOf (backTables t memory journal (positionIn position)) position

@@ -1,0 +1,40 @@
+-- console_open: "position on 0, error on 5".
+use Prim.Native.Nat.{ℕ}
+use mathlib.Core.List.{List}
+use lib.Seq.{sets}
+use Rattle.tables.specs.Tables.{Tables}
+use Rattle.type_check.specs.Check.{errorWords}
+use Rattle.session.specs.Answer.{openNumber}
+use Rattle.session.specs.Open.{Opening, openTables}
+use Rattle.session.specs.declared.answer.OpenAnswer.{OpenAnswer}
+use Rattle.session.specs.declared.answer.OpenAnswer.the-variants.{Opened, Refused, Error}
+use Rattle.console_c.specs.Position.{positionWords}
+
+-- the number returned, and memory and the two out-arrays at exit
+pub record OpenedWords : Type 0 where
+  pub number : ℕ
+  pub memory : List ℕ
+  pub position : List ℕ
+  pub error : List ℕ
+
+abbrev pub opened : ℕ → List ℕ → List ℕ → List ℕ → OpenedWords
+opened number memory position error = record { number = number; memory = memory; position = position; error = error }
+
+-- "position on 0"
+abbrev pub firstPosition : OpenAnswer → List ℕ → List ℕ
+firstPosition (Opened p) position = sets position 0 (positionWords p)
+firstPosition (Refused number) position = position
+firstPosition (Error e) position = position
+
+-- "error on 5"
+abbrev pub firstError : OpenAnswer → List ℕ → List ℕ
+firstError (Opened p) error = error
+firstError (Refused number) error = error
+firstError (Error e) error = sets error 0 (errorWords e)
+
+abbrev pub openedOf : Opening → List ℕ → List ℕ → OpenedWords
+openedOf o position error = opened (openNumber (o .answer)) (o .memory) (firstPosition (o .answer) position) (firstError (o .answer) error)
+
+-- of the journal the length
+unfoldable pub consoleOpen : Tables → List ℕ → ℕ → List ℕ → List ℕ → OpenedWords
+consoleOpen t memory journal position error = openedOf (openTables t memory journal) position error

@@ -1,0 +1,60 @@
+// Back on the cells: the looks from 19 on, and the entries restored.
+ghost use mathlib.Core.Path.{_≡_};
+ghost use Prim.Native.Nat.{_/_};
+ghost use lib.ListN.{length};
+ghost use Rattle.session.specs.Back.{takeBackLook, takenBack, backed};
+ghost use Rattle.session.specs.TakeBack.{takeBackOutcome};
+use crate::answer::StepAnswer;
+use crate::position::position_fits;
+use journal::cells::CELL_WIDTH;
+use journal::entries::ENTRY_WIDTH;
+use journal::entries::changes_at;
+use journal::position::Position;
+use journal::restore::readable;
+use journal::restore::undo;
+use tables::refusal::FOREIGN_POSITION;
+use tables::refusal::NOTHING_TO_TAKE_BACK;
+
+// The change count of the last step, or a refusal by its number.
+pub enum TakeBack {
+    Changes(usize),
+    Refused(u64),
+}
+
+pub fn look_back(rows: usize, cells: usize, journal: &[u64], p: Position) -> TakeBack
+    ensures { λ r. ⌜ takeBackOutcome r ≡ takeBackLook rows cells (now (journal .entry)) p ⌝ }
+{
+    let done = p.done;
+    let used = p.used;
+    if !position_fits(rows, journal.len() / ENTRY_WIDTH, p) {
+        return TakeBack::Refused(FOREIGN_POSITION);
+    }
+    if done == 0 {
+        return TakeBack::Refused(NOTHING_TO_TAKE_BACK);
+    }
+    if used == 0 {
+        return TakeBack::Refused(FOREIGN_POSITION);
+    }
+    let changes = changes_at(journal, used - 1);
+    if used <= changes {
+        return TakeBack::Refused(FOREIGN_POSITION);
+    }
+    if !readable(journal, used - (changes + 1), changes, cells) {
+        return TakeBack::Refused(FOREIGN_POSITION);
+    }
+    TakeBack::Changes(changes)
+}
+
+pub fn take_back(rows: usize, cells: &mut [u64], journal: &[u64], p: Position) -> StepAnswer
+    ensures { λ r. ⌜ backed r (now (cells .exit)) ≡ takenBack (now (cells .entry)) (now (journal .entry)) p (takeBackLook rows (length (now (cells .entry)) / 2) (now (journal .entry)) p) ⌝ }
+{
+    let used = p.used;
+    let look = look_back(rows, cells.len() / CELL_WIDTH, journal, p);
+    match look {
+        TakeBack::Refused(number) => StepAnswer::Refused(number, p),
+        TakeBack::Changes(changes) => {
+            undo(cells, journal, used - (changes + 1), changes);
+            StepAnswer::Moved(p.retreat(changes))
+        }
+    }
+}
