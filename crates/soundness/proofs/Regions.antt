@@ -5,42 +5,29 @@ use mathlib.Core.Bool.{Bool, true, false, cond, false≢true}
 use mathlib.Core.List.{List}
 use mathlib.Core.Path.{_≡_, refl, sym, ap, _∙_}
 use native.Mathlib.Omega.{arith}
-use native.Mathlib.Decide.{ℕ-discrete}
 use lib.Dec.{ltb}
-use borrow.Author.Tests.{lt-ltb, le-ltb}
 use Rattle.tables.specs.Refusal.{indexPastLength}
 use Rattle.tables.specs.Rows.{regionRows, regionKind, regionLength}
 use Rattle.tables.specs.Cells.{start, cellCount}
 use Rattle.tables.specs.Lookup.{lookupRegion}
 use Rattle.tables.specs.declared.lookup.Found.{Found}
 use Rattle.tables.specs.declared.lookup.Found.the-variants.{At, Nothing}
-use Rattle.tables.proofs.CellsLaws.{start-next, start-mono}
 use Rattle.tables.proofs.LookupLaws.{lookup-within}
 use Rattle.type_check.specs.Codes.{codeOf}
 use Rattle.type_check.proofs.CodeLaws.{code-kind, code-none}
 use Rattle.machine.specs.Kinds.{regionAmong, regionOf, declaredKind}
 use Rattle.machine.specs.Address.{addressOf, indexFits, indexedOf, foundRegion, namedOf, writtenOf}
 use Rattle.machine.proofs.AddressLaws.{address-within, index-below}
+use Rattle.machine.proofs.KindsLaws as kinds
 use Rattle.machine.proofs.Ends.{Ends, fine, tested, weaken}
 
 -- ---- the region of a cell
 
 module _ (regions : List ℕ) where
-  region-among : (n r i : ℕ) → r < n → i < regionLength regions r → regionAmong regions n (addressOf regions r i) ≡ r
-  unfolding regionAmong addressOf
-  region-among zero r i h l = absurd (omega arith)
-  region-among (suc n) r i h l = at (ℕ-discrete r n) (λ q. region-among n r i q l)
-    where
-      at : Dec (r ≡ n) → (r < n → regionAmong regions n (start regions r + i) ≡ r) → regionAmong regions (suc n) (start regions r + i) ≡ r
-      at (yes e) ih = rw (e, le-ltb (start regions n + i) (start regions n) (omega arith))
-      at (no ne) ih =
-          let k : start regions (r + 1) ≤ start regions n = start-mono regions (r + 1) n (omega arith) in
-          rw (lt-ltb (start regions r + i) (start regions n) (omega (arith, start-next regions r))) (ih (omega arith))
-
   -- the cell at an index of region r lies in region r
   pub region-of : (r i : ℕ) → r < regionRows regions → i < regionLength regions r → regionOf regions (addressOf regions r i) ≡ r
-  unfolding regionOf
-  region-of r i h l = region-among (regionRows regions) r i h l
+  unfolding addressOf
+  region-of r i h l = kinds.region-of regions r i h l
 
   among-below : (n c : ℕ) → regionAmong regions (suc n) c < suc n
   unfolding regionAmong
