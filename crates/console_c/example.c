@@ -1,4 +1,5 @@
-/* Checks two programs, resolves a CALL and walks an expression through the C interface.
+/* Checks two programs, resolves a CALL, walks an expression, and steps the CALL forward and back
+ * through the C interface.
  * Build and run from the repository's root:
  *   rt staticlib console_c
  *   cc -o target/example crates/console_c/example.c target/staticlib/libconsole_c.a && target/example */
@@ -49,5 +50,18 @@ int main(void)
         uint64_t walked = console_reference(nodes, LENGTH(nodes), 0, 4, place, found);
         print("reference", walked, found, 3);
     } while (found[0] == 1);
+
+    /* two words a cell, three an entry; the reply puts 5 into n[0], the return, and 7 into n[2] */
+    uint64_t memory[10], journal[9], position[2] = {0};
+    const uint64_t reply[] = {0, 0, 1, 5, 1, 0, 1, 7};
+    print("open", console_open(TABLES(call), memory, 10, journal, 9, position, error), position, 2);
+    uint64_t stepped =
+        console_forward(TABLES(call), memory, 10, journal, 9, position, reply, LENGTH(reply));
+    print("forward", stepped, position, 2);
+    print("cells", 0, memory, 10);
+    print("forward at the end",
+          console_forward(TABLES(call), memory, 10, journal, 9, position, reply, 0), position, 2);
+    print("back", console_back(TABLES(call), memory, 10, journal, 9, position), position, 2);
+    print("cells", 0, memory, 10);
     return 0;
 }

@@ -16,8 +16,8 @@ use Rattle.extern_call.specs.declared.call.Call.{Call}
 use Rattle.journal.specs.declared.cells.Write.{Write}
 use Rattle.journal.specs.Each.{Each, none, also}
 use Rattle.machine.specs.Address.{indexedOf, namesOf, addressesOf}
-use Rattle.machine.specs.Cells.{integerLiteral, realLiteral, cellKind, readOf, sourceOf}
-use Rattle.machine.specs.Operators.{arithmeticKinds, arithmeticResult, comparisonKinds, logicKinds, logicResult, unaryKinds}
+use Rattle.machine.specs.Cells.{cellKind, readOf, sourceOf}
+use Rattle.operators.specs.Operators.{integerLiteral, realLiteral, arithmeticKinds, arithmeticResult, comparisonKinds, logicKinds, logicResult, unaryKinds}
 use Rattle.machine.specs.Families.{offsetOf, putInto, arithmeticOf, comparisonOf, logicOf, unaryOf, moveOf, exchangeOf, loadOf, storeOf, familyOf}
 use Rattle.machine.specs.Call.{replyRows, replyWritesFrom, replyWrites}
 use Rattle.machine.specs.Outcome.{isOther, plainOutcome}

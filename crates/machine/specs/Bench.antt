@@ -14,7 +14,7 @@ use Rattle.tables.specs.Tables.{Tables, tablesOf}
 use Rattle.tables.specs.declared.rows.Instruction.{Instruction}
 use Rattle.machine.specs.Cells.{readOf, sourceOf}
 use Rattle.machine.specs.Address.{addressOf, indexFits, indexedOf, namedOf, namesOf, writtenOf, addressesOf}
-use Rattle.machine.specs.Operators.{integerResult, arithmeticResult, logicResult}
+use Rattle.operators.specs.Operators.{integerResult, arithmeticResult, logicResult}
 use Rattle.machine.specs.Families.{write, one, offsetOf, putInto, arithmeticOf, logicOf, moveOf, exchangeOf, loadOf, familyOf}
 use Rattle.machine.specs.Outcome.{plainOutcome, outcomeOf}
 use Rattle.journal.specs.declared.cells.Write.{Write}

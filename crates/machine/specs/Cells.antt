@@ -8,16 +8,10 @@ use Rattle.words.specs.Kind.{fitsKind}
 use Rattle.tables.specs.Refusal.{noRule}
 use Rattle.tables.specs.Outcome.{Outcome, ok, refuse, _>>_, need}
 use Rattle.tables.specs.declared.rows.Instruction.{Instruction}
+use Rattle.operators.specs.Operators.{integerLiteral, realLiteral}
 use Rattle.machine.specs.declared.cell.Value.{Value}
 use Rattle.machine.specs.declared.cell.Read.{Read}
 use Rattle.machine.specs.declared.cell.Read.the-variants.{Holds, NoRule}
-
--- 01, Type check, the codes: "kinds 0 to 3, 4 integer literal, 5 real literal". A literal's code stands for its kind.
-abbrev pub integerLiteral : ℕ
-integerLiteral = 4
-
-abbrev pub realLiteral : ℕ
-realLiteral = 5
 
 abbrev pub cellKind : List ℕ → ℕ → ℕ
 cellKind cells c = getD cells (2 * c) 0

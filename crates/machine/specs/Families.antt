@@ -9,9 +9,9 @@ use Rattle.words.specs.Width.{lowBits}
 use Rattle.tables.specs.Refusal.{noRule}
 use Rattle.tables.specs.Outcome.{Outcome, ok, refuse, _>>=_, _>>_, need}
 use Rattle.tables.specs.declared.rows.Instruction.{Instruction}
-use Rattle.machine.specs.Cells.{integerLiteral, realLiteral, cellKind, readOf, sourceOf}
+use Rattle.machine.specs.Cells.{cellKind, readOf, sourceOf}
 use Rattle.machine.specs.Address.{indexedOf}
-use Rattle.machine.specs.Operators.{arithmeticKinds, arithmeticResult, comparisonKinds, comparisonResult, logicKinds, logicResult, unaryKinds, unaryResult}
+use Rattle.operators.specs.Operators.{integerLiteral, realLiteral, arithmeticKinds, arithmeticResult, comparisonKinds, comparisonResult, logicKinds, logicResult, unaryKinds, unaryResult}
 use Rattle.machine.specs.declared.cell.Value.{Value}
 use Rattle.machine.specs.declared.cell.Offset.{Offset}
 use Rattle.machine.specs.declared.cell.Offset.the-variants.{Word, NoRule}

@@ -1,9 +1,8 @@
--- One row's outcome on the cells: Cells and Address (what operands are and where they lie), Operators (results and the kinds that have a rule),
+-- One row's outcome on the cells: Cells and Address (what operands are and where they lie), Kinds (what the regions declare of each cell),
 -- Families (one definition a family), Call (the reply), Outcome (any row), and the machine's lines of the bench.
 pub mod Cells
 pub mod Kinds
 pub mod Address
-pub mod Operators
 pub mod Families
 pub mod Call
 pub mod Reach

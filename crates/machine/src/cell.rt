@@ -3,13 +3,10 @@ ghost use mathlib.Core.Path.{_≡_};
 ghost use Rattle.machine.specs.Cells.{readOf, sourceOf, readOutcome};
 ghost use Rattle.machine.specs.Families.{offsetOf, offsetOutcome};
 ghost use Rattle.machine.specs.Reach.{There, SourceThere};
+use operators::INTEGER_LITERAL;
+use operators::REAL_LITERAL;
 use tables::rows::Instruction;
 use words::kind;
-
-// Codes of literals, beside the kinds.
-pub const INTEGER_LITERAL: u64 = 4;
-
-pub const REAL_LITERAL: u64 = 5;
 
 // A cell's kind and word, or a literal's word with its code for the kind.
 pub struct Value {

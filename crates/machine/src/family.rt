@@ -7,17 +7,16 @@ use crate::address::Addresses;
 use crate::address::Indexed;
 use crate::address::NamedRegions;
 use crate::address::index_cell;
-use crate::cell::INTEGER_LITERAL;
 use crate::cell::Offset;
-use crate::cell::REAL_LITERAL;
 use crate::cell::Read;
 use crate::cell::Value;
 use crate::cell::read_cell;
 use crate::cell::read_offset;
 use crate::cell::read_source;
-use crate::operator;
 use crate::outcome::RowOutcome;
 use journal::cells::Write;
+use operators::INTEGER_LITERAL;
+use operators::REAL_LITERAL;
 use tables::instruction;
 use tables::refusal::INDEX_PAST_LENGTH;
 use tables::refusal::NEGATIVE_SHIFT_COUNT;
@@ -74,10 +73,10 @@ pub fn arithmetic(cells: &[u64], x: Instruction, a: Addresses) -> RowOutcome
     let Read::Holds(s) = read_source(cells, x, a.source) else {
         return RowOutcome::Refused(NO_RULE);
     };
-    if !operator::arithmetic_kinds(d.kind, s.kind) {
+    if !operators::arithmetic_kinds(d.kind, s.kind) {
         return RowOutcome::Refused(NO_RULE);
     }
-    let Quotient::Word(word) = operator::arithmetic_result(x.operator, d.kind, d.word, s.word)
+    let Quotient::Word(word) = operators::arithmetic_result(x.operator, d.kind, d.word, s.word)
     else {
         return RowOutcome::Refused(ZERO_DIVISOR);
     };
@@ -98,13 +97,13 @@ pub fn comparison(cells: &[u64], x: Instruction, a: Addresses) -> RowOutcome
     let Read::Holds(s) = read_source(cells, x, a.source) else {
         return RowOutcome::Refused(NO_RULE);
     };
-    if !operator::comparison_kinds(l.kind, s.kind) {
+    if !operators::comparison_kinds(l.kind, s.kind) {
         return RowOutcome::Refused(NO_RULE);
     }
     RowOutcome::One(Write {
         cell: a.first,
         kind: kind::BIT,
-        word: operator::comparison_result(x.operator, l.kind, l.word, s.word),
+        word: operators::comparison_result(x.operator, l.kind, l.word, s.word),
     })
 }
 
@@ -118,10 +117,10 @@ pub fn logic(cells: &[u64], x: Instruction, a: Addresses) -> RowOutcome
     let Read::Holds(s) = read_source(cells, x, a.source) else {
         return RowOutcome::Refused(NO_RULE);
     };
-    if !operator::logic_kinds(d.kind, s.kind) {
+    if !operators::logic_kinds(d.kind, s.kind) {
         return RowOutcome::Refused(NO_RULE);
     }
-    let Shifted::Word(word) = operator::logic_result(x.operator, d.kind, d.word, s.word) else {
+    let Shifted::Word(word) = operators::logic_result(x.operator, d.kind, d.word, s.word) else {
         return RowOutcome::Refused(NEGATIVE_SHIFT_COUNT);
     };
     RowOutcome::One(Write {
@@ -138,13 +137,13 @@ pub fn unary(cells: &[u64], x: Instruction, a: Addresses) -> RowOutcome
     let Read::Holds(d) = read_cell(cells, a.first) else {
         return RowOutcome::Refused(NO_RULE);
     };
-    if !operator::unary_kinds(x.operator, d.kind) {
+    if !operators::unary_kinds(x.operator, d.kind) {
         return RowOutcome::Refused(NO_RULE);
     }
     RowOutcome::One(Write {
         cell: a.first,
         kind: d.kind,
-        word: operator::unary_result(x.operator, d.kind, d.word),
+        word: operators::unary_result(x.operator, d.kind, d.word),
     })
 }
 

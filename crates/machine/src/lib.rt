@@ -3,6 +3,5 @@ pub mod address;
 pub mod call;
 pub mod cell;
 pub mod family;
-pub mod operator;
 pub mod outcome;
 pub mod reply;

@@ -29,7 +29,7 @@ use Rattle.journal.specs.Restore.{restored, undone, present}
 use Rattle.machine.specs.Kinds.{regionAmong, regionOf, declaredKind, zerosFrom, zeros}
 use Rattle.machine.specs.Cells.{readOf, sourceOf}
 use Rattle.machine.specs.Address.{addressOf, indexFits, indexedOf, namedOf, namesOf, writtenOf, addressesOf}
-use Rattle.machine.specs.Operators.{integerResult, arithmeticResult, logicResult}
+use Rattle.operators.specs.Operators.{integerResult, arithmeticResult, logicResult}
 use Rattle.machine.specs.Families as families
 use Rattle.machine.specs.Outcome.{plainOutcome, outcomeOf, outcomeAt}
 use Rattle.session.specs.Prepare.{buffersFit, preparedOf}

@@ -20,7 +20,7 @@ use Rattle.type_check.specs.Numbers.{absent}
 use Rattle.type_check.specs.Rule as T
 use Rattle.type_check.specs.Codes.{foundCode, codeOf, referenceCode, operandCode}
 use Rattle.type_check.proofs.CodeLaws.{kind-below}
-use Rattle.machine.specs.Operators.{arithmeticKinds, comparisonKinds, logicKinds, unaryKinds}
+use Rattle.operators.specs.Operators.{arithmeticKinds, comparisonKinds, logicKinds, unaryKinds}
 
 -- ---- tests that all hold
 

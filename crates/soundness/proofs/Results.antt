@@ -16,7 +16,7 @@ use Rattle.words.specs.declared.integer.Quotient.the-variants as Q
 use Rattle.words.specs.declared.width.Shifted.{Shifted}
 use Rattle.words.specs.declared.width.Shifted.the-variants as S
 use Rattle.tables.specs.Refusal.{zeroDivisor, negativeShiftCount}
-use Rattle.machine.specs.Operators.{quotientOutcome, integerResult, realResult, arithmeticResult, comparisonTest, comparisonResult, shiftedOutcome, logicResult, unaryResult}
+use Rattle.operators.specs.Operators.{quotientOutcome, integerResult, realResult, arithmeticResult, comparisonTest, comparisonResult, shiftedOutcome, logicResult, unaryResult}
 use Rattle.machine.proofs.Ends.{Ends, Ruled, fine, turned, either}
 
 -- ---- arithmetic

@@ -17,8 +17,8 @@ use Rattle.type_check.specs.Codes.{codeOf, operandCode}
 use Rattle.journal.specs.declared.cells.Write.{Write}
 use Rattle.journal.specs.Each.{Each}
 use Rattle.machine.specs.Address.{namesSource}
-use Rattle.machine.specs.Cells.{integerLiteral, realLiteral, cellKind, readOf, sourceOf}
-use Rattle.machine.specs.Operators.{comparisonKinds}
+use Rattle.machine.specs.Cells.{cellKind, readOf, sourceOf}
+use Rattle.operators.specs.Operators.{integerLiteral, realLiteral, comparisonKinds}
 use Rattle.machine.specs.Families as F
 use Rattle.machine.specs.declared.cell.Value.{Value}
 use Rattle.machine.proofs.Ends.{Ends, Ruled, fine, bind, ruled}

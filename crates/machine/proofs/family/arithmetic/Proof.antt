@@ -3,7 +3,7 @@ use mathlib.Core.Path.{sym, _∙_}
 use borrow.Author.Tests.{not-true, not-false}
 use Rattle.tables.specs.Outcome.{_>>=_, _>>_, need, seen}
 use Rattle.machine.specs.Cells.{readOutcome}
-use Rattle.machine.specs.Operators.{quotientOutcome}
+use Rattle.operators.specs.Operators.{quotientOutcome}
 use Rattle.machine.specs.Families.{arithmeticOf}
 use Rattle.machine.proofs.family.arithmetic.Statement.{statement}
 use Rattle.machine.proofs.family.arithmetic.Tie as tie

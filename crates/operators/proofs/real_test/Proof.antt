@@ -1,0 +1,55 @@
+use borrow.Author.Needs.{needs}
+use Rattle.operators.specs.Operators.{realTests, realTest}
+use Rattle.tables.proofs.Cases.{rest-arm}
+use Rattle.operators.proofs.real_test.Statement.{statement}
+use Rattle.operators.proofs.real_test.Tie as tie
+
+equal-requires : tie.Need-equal-requires
+equal-requires c κs = search needs
+
+greater-than-or-equal-requires : tie.Need-greater-than-or-equal-requires
+greater-than-or-equal-requires c κs = search needs
+
+greater-than-requires : tie.Need-greater-than-requires
+greater-than-requires c κs = search needs
+
+less-than-or-equal-requires : tie.Need-less-than-or-equal-requires
+less-than-or-equal-requires c κs = search needs
+
+less-than-requires : tie.Need-less-than-requires
+less-than-requires c κs = search needs
+
+returns : tie.Need-returns
+unfolding realTest
+returns c = rw (c .before .match .keys1, c .equal .ensures)
+
+returns-2 : tie.Need-returns-2
+unfolding realTest
+returns-2 c = rw (c .before .match .keys2, c .greater-than-or-equal .ensures)
+
+returns-3 : tie.Need-returns-3
+unfolding realTest
+returns-3 c = rw (c .before .match .keys3, c .greater-than .ensures)
+
+returns-4 : tie.Need-returns-4
+unfolding realTest
+returns-4 c = rw (c .before .match .keys4, c .less-than-or-equal .ensures)
+
+returns-5 : tie.Need-returns-5
+unfolding realTest
+returns-5 c = rw (c .less-than .ensures) (rest-arm (realTests (c .before .before .args .a) (c .before .before .args .b)) _ (c .before .before .args .operator) (c .before .match .rest))
+
+pub real-test-spec : {M : Type 1} → statement M
+real-test-spec =
+    tie.close
+    (tie.spec
+    equal-requires
+    greater-than-or-equal-requires
+    greater-than-requires
+    less-than-or-equal-requires
+    less-than-requires
+    returns
+    returns-2
+    returns-3
+    returns-4
+    returns-5)

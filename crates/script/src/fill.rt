@@ -1,0 +1,27 @@
+// Numbers in a row.
+use crate::token::NUMBER;
+use crate::token::token_at;
+
+// A word at a place that the slice has.
+pub fn put(out: &mut [u64], i: usize, word: u64) {
+    if i < out.len() {
+        out[i] = word;
+    }
+}
+
+// Reads `count` numbers from `at` on, keeps those that `out` has room for, from its front, and answers the place after them.
+// It ends early before a token that is no number.
+pub fn fill(text: &[u8], at: usize, out: &mut [u64], count: usize) -> usize {
+    let mut place = at;
+    let mut i = 0;
+    while i < count {
+        let next = token_at(text, place);
+        if next.kind != NUMBER {
+            break;
+        }
+        put(out, i, next.value);
+        place = next.next;
+        i += 1;
+    }
+    place
+}

@@ -1,0 +1,3 @@
+// Texts of numbers and signs, for the programs that read one.
+pub mod fill;
+pub mod token;

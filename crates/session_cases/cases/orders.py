@@ -1,0 +1,81 @@
+"""Two causes at once in forward: the earlier one is answered."""
+from rules.tables import INTEGER, OCTET
+
+from . import quil
+from .bench import Bench
+from .calls import called
+from .script import marked
+
+REPLY = (0, 0, INTEGER, 5)
+HUGE = [11, 0, 4097]
+
+
+def whole_tables(bench):
+    """1, 2, 3, 10, 4, 19, then 11 and 9, each with the next and with the last."""
+    causes = (
+        (1, 'not whole', {'arguments': [1]}), (2, 'word', {'nodes': [7, 0, 0]}), (3, 'two externs', {'externs': [21, 4, 0, 0] * 2}),
+        (10, 'cells', {'regions': HUGE}), (4, 'journal', {'journal': 5}), (19, 'used', {'used': 9}), (9, 'HALT', {'instructions': quil.row('HALT')}))
+    for k, (number, what, change) in enumerate(causes):
+        for _, later, other in causes[k + 1:]:
+            together(bench, number, f'{what} and {later}', {**other, **change})
+    together(bench, 19, 'used and the end', {'used': 9, 'instructions': []})
+    together(bench, 19, 'done and HALT', {'done': 2, 'instructions': quil.row('HALT')})
+    together(bench, 11, 'the end and a reply', {'instructions': [], 'reply': REPLY})
+    together(bench, 9, 'HALT and a full journal', {'instructions': quil.row('HALT'), 'journal': 0})
+    together(bench, 11, 'the end and a full journal', {'instructions': [], 'journal': 0})
+
+
+def together(bench, number, what, change):
+    tables = {key: change[key] for key in ('regions', 'externs', 'nodes', 'arguments') if key in change}
+    bench.script.heading(what)
+    bench.tables(change.get('instructions', quil.row('NOP')), **tables)
+    bench.script.lend_memory(marked(quil.cells(), 20))
+    bench.script.lend_journal(marked([], change.get('journal', 12)))
+    bench.script.place(change.get('done', 0), change.get('used', 0))
+    bench.expect(number, bench.script.forward(change.get('reply', ())), what)
+
+
+def rows(bench):
+    step = bench.step
+    step(17, 'ADD q[0] n[0]', reply=REPLY)
+    step(17, 'NOP', reply=REPLY, entries=0)
+    for row in ('ADD q[0] n[5]', 'ADD n[5] q[0]', 'EQ a[9] q[0] n[0]', 'EQ a[9] n[9] q[0]', 'EXCHANGE n[9] q[0]', 'LOAD n[9] q n[0]',
+                'LOAD n[9] r q[0]', 'STORE q n[9] 5', 'STORE n n[9] q[0]', 'MOVE q[0] n[9]', 'AND n[9] q[0]'):
+        step(18, row)
+    for row in ('ADD n[0] n[3]', 'EQ a[2] n[0] n[1]', 'AND n[0] o[2]', 'EXCHANGE n[0] n[3]', 'LOAD n[3] n n[0]', 'STORE n n[0] n[3]',
+                'DIV n[3] n[0]', 'SHL n[3] n[0]', 'MOVE n[3] n[0]'):
+        step(14, row, 'n0=4:0')
+    step(18, 'STORE r n[0] n[1]', 'n0=2 n1=4:0')
+    step(18, 'LOAD n[1] r n[0]', 'n0=REAL:inf')
+    step(14, 'STORE r n[0] 5', 'n0=2')
+    step(18, 'DIV n[0] n[1]', 'n0=4:0 n1=0')
+    step(18, 'DIV n[0] 0', 'n0=OCTET:1')
+    step(18, 'SHL n[0] n[1]', 'n0=REAL:1.0 n1=-1')
+    step(18, 'SHL o[0] -1', 'o0=256')
+
+
+def full_journals(bench):
+    for number, row, cells in ((18, 'ADD q[0] 1', ''), (14, 'ADD n[3] 1', ''), (18, 'ADD n[0] 1', 'n0=4:0'), (14, 'LOAD n[0] n n[1]', 'n1=3'),
+                               (18, 'LOAD n[0] n n[1]', 'n1=2 n2=4:0'), (15, 'DIV n[0] 0', ''), (16, 'SHL n[0] -1', '')):
+        bench.step(number, row, cells, entries=1)
+        bench.step(number, row, cells, entries=0)
+
+
+def calls(bench):
+    bad = (1, 0, INTEGER, 0)
+    called(bench, 6, 'CALL q n q', bad, entries=0)
+    called(bench, 7, 'CALL f q', bad, entries=0)
+    called(bench, 8, 'CALL f n[9] q r o', bad, entries=0)
+    called(bench, 8, 'CALL f q a[9] r o', bad, entries=0)
+    called(bench, 14, 'CALL f n[9] a r o', bad, entries=0)
+    called(bench, 14, 'CALL f n a[9] r o', (0,), entries=0)
+    called(bench, 17, 'CALL f n a r o', bad, entries=0)
+    called(bench, 17, 'CALL f n a r o', (3, 0, OCTET, 1) + bad, entries=2)
+    called(bench, 17, 'CALL f n a r o', (0,), entries=0)
+
+
+def write(script):
+    bench = Bench(script)
+    script.heading('two causes at once:')
+    for group in (whole_tables, rows, full_journals, calls):
+        group(bench)

@@ -1,0 +1,13 @@
+// Plays the script on standard input through open, forward and back, and writes what each call answers and changes.
+mod call;
+mod lent;
+mod play;
+mod print;
+
+use libc::STDIN_FILENO;
+
+fn main() {
+    let mut text = [0; 262144];
+    let count = io::read_full(STDIN_FILENO, &mut text);
+    play::play(&text[0..count]);
+}
