@@ -1,0 +1,1 @@
+pub fn write() -> bool { false }
