@@ -1,4 +1,5 @@
-# Rattle to Rust: drops the contracts, lets structs and enums be copied, and spells `let .. else` for older compilers.
+# Rattle to Rust: drops the contracts, lets structs and enums be copied, spells `let .. else` for older compilers and
+# names Rust's own wrapping functions.
 /^ *ghost use /d
 /^ *requires {.*}$/d
 /^ *ensures {.*}$/d
@@ -6,3 +7,5 @@
 /^pub \(struct\|enum\) /i\
 #[derive(Clone, Copy)]
 s/let \([A-Za-z_]*::[A-Za-z_]*\)(\([a-z_]*\)) = \(.*\) else {/let \2 = if let \1(\2) = \3 { \2 } else {/
+s/std::num::\(wrapping_[a-z]*\)_u64(/u64::\1(/
+s/^pub extern "C" fn /pub fn /

@@ -117,9 +117,9 @@ impl Rows<'_> {
         let mut open = 1;
         while open > 0 {
             let left = most.saturating_sub(nodes.len() + open);
-            let node = match self.random.below(5) {
+            let node = match self.random.below(6) {
                 0 if left > 0 => [self.random.pick(&[1, 5]), 0, 0],
-                1..=2 if left > 1 => [2, 0, 0],
+                1..=4 if left > 1 => [2, 0, 0],
                 _ => self.leaf(),
             };
             open = match node[0] {
@@ -134,19 +134,19 @@ impl Rows<'_> {
 
     pub fn leaf(&mut self) -> Node {
         if self.careful() {
-            return match self.random.below(3) {
+            return match self.random.below(5) {
                 0 => [4, 0, 0],
-                1 => [3, word(self.random), self.random.pick(&[0, EPSILON, f64::NAN.to_bits()])],
+                1..=2 => [3, word(self.random), self.random.pick(&[0, EPSILON, f64::NAN.to_bits()])],
                 _ => match self.program.regions.iter().find(|r| r[1] == REAL) {
                     Some(region) => [0, region[0], word(self.random)],
                     None => [4, 0, 0],
                 },
             };
         }
-        match self.random.below(4) {
-            0 => [0, self.name(&[REAL]), word(self.random)],
-            1 => [3, word(self.random), word(self.random)],
-            2 => [4, 0, 0],
+        match self.random.below(6) {
+            0..=2 => [0, self.name(&[REAL]), word(self.random)],
+            3 => [3, word(self.random), word(self.random)],
+            4 => [4, 0, 0],
             _ => [6, self.random.pick(&NAMES), 0],
         }
     }
