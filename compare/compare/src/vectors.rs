@@ -2,10 +2,10 @@
 //!
 //! A line is words in hexadecimal. A list is its length, then its words.
 //!   call (1 check, 2 resolve, 3 access, 4 memory_references), the six tables as lists, then
-//!   1: number, the error's words as a list
+//!   1: number, the error's six words or six zeros
 //!   2: row, room, number, count, the written words as a list
 //!   3: row, two rooms, number, two counts, each list's written words as a list
-//!   4: first node, node count, the words found by one call after another as a list
+//!   4: first node, node count, how many calls, the three words that each found
 //! Lent words past the written ones must keep what they held.
 use crate::{
     exhaustive,
@@ -18,15 +18,18 @@ use tables::{Answer, Query, Tables};
 
 /// The replaying program lends lists of this many words.
 const MOST: usize = 256;
+
+/// Larger programs are left to the comparison itself, so that the list stays small.
+const LARGEST: usize = 80;
 const SEED: u64 = 4;
 
 pub fn write() -> bool {
     let mut list = List { text: header(), ..List::default() };
-    sample(&mut list, exhaustive::rows::each, 97);
-    sample(&mut list, exhaustive::trees::each, 289);
-    sample(&mut list, exhaustive::calls::each, 433);
+    sample(&mut list, exhaustive::rows::each, 121);
+    sample(&mut list, exhaustive::trees::each, 331);
+    sample(&mut list, exhaustive::calls::each, 487);
     let mut random = Random::new(SEED);
-    for _ in 0..180 {
+    for _ in 0..600 {
         list.add(&random::small::program(&mut random));
     }
     eprintln!("{} questions", list.questions);
@@ -60,7 +63,7 @@ struct List {
 impl List {
     fn add(&mut self, program: &Program) {
         let tables = program.tables();
-        let fits = tables.in_order().iter().all(|(_, _, words)| words.len() <= MOST);
+        let fits = tables.in_order().iter().map(|(_, _, words)| words.len()).sum::<usize>() <= LARGEST;
         // A program of one CALL always passes the check.
         let one_call = matches!(&program.rows[..], [Row::Call { .. }]);
         for query in program.queries(&tables, self.questions % 3) {
@@ -85,7 +88,7 @@ impl List {
         match query {
             Query::Check => {
                 words.push(answer.number);
-                push_list(&mut words, if answer.number == 5 { &answer.out } else { &[] });
+                words.extend(if answer.number == 5 { answer.out.clone() } else { vec![0; 6] });
             }
             Query::Resolve { row, room } => {
                 let (count, width) = match answer.number {
@@ -104,8 +107,8 @@ impl List {
                 push_list(&mut words, &answer.lent[1][..counts[1] as usize]);
             }
             Query::References { first, count } => {
-                words.extend([first, count]);
-                push_list(&mut words, &answer.out);
+                words.extend([first, count, answer.out.len() as u64 / 3]);
+                words.extend(&answer.out);
             }
         }
         let words: Vec<String> = words.iter().map(|word| format!("{word:x}")).collect();
