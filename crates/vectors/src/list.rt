@@ -70,7 +70,7 @@ pub fn next_word(fd: i32, sums: &mut [u64; 2]) -> u64 {
     word
 }
 
-fn least(a: usize, b: usize) -> usize
+pub fn least(a: usize, b: usize) -> usize
     ensures { λ r. ⌜ r ≤ b ⌝ }
 {
     if a < b { a } else { b }

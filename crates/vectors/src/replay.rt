@@ -2,6 +2,7 @@
 use crate::compare::agrees;
 use crate::compare::agrees_lent;
 use crate::compare::blanks;
+use crate::list::least;
 use crate::list::next_list;
 use crate::list::next_room;
 use crate::list::next_word;
@@ -157,7 +158,8 @@ fn step(
 fn walk_question(fd: i32, sums: &mut [u64; 2], nodes: &[u64]) -> bool {
     let first = next_word(fd, sums);
     let count = next_word(fd, sums);
-    let steps = next_word(fd, sums);
+    // No tree here has so many references: a list that says so would only take long.
+    let steps = least(next_word(fd, sums) as usize, 256);
     let mut place = 0;
     let mut same = true;
     let mut i = 0;

@@ -20,6 +20,9 @@ next-word-requires-2 c κs = search needs
 next-word-requires-3 : tie.Need-next-word-requires-3 Inv-loop μ-loop
 next-word-requires-3 c κs = search needs
 
+least-requires : tie.Need-least-requires Inv-loop μ-loop
+least-requires c κs = search needs
+
 loop-holds : tie.Need-loop-holds Inv-loop μ-loop
 loop-holds c = search needs
 
@@ -47,6 +50,7 @@ walk-question-spec =
     next-word-requires
     next-word-requires-2
     next-word-requires-3
+    least-requires
     loop-holds
     step-requires
     add-i
