@@ -18,6 +18,29 @@ use quil_rs::{
 use std::collections::HashMap;
 use tables::{Tables, ARGUMENT};
 
+/// Operators by number. The tables count "in the Rust's order": the compiler holds each list to its enum's order.
+macro_rules! operators {
+    ($($list:ident: $type:ident = $($case:ident),*;)*) => {
+        $(
+            const $list: &[$type] = &[$($type::$case),*];
+            const _: () = {
+                let mut i = 0;
+                while i < $list.len() {
+                    assert!($list[i] as usize == i);
+                    i += 1;
+                }
+            };
+        )*
+    };
+}
+
+operators! {
+    ARITHMETIC: ArithmeticOperator = Add, Subtract, Divide, Multiply;
+    COMPARISON: ComparisonOperator = Equal, GreaterThanOrEqual, GreaterThan, LessThanOrEqual, LessThan;
+    BINARY: BinaryOperator = And, Ior, Xor, Shl, Shr, Ashr;
+    UNARY: UnaryOperator = Neg, Not;
+}
+
 /// How operands are named. quil-rs's errors show an operand's name and nothing of its place, so the place is read
 /// off a second run in which each occurrence of an operand has a name of its own, declared as the table's name is.
 #[derive(Clone, Copy, PartialEq)]
@@ -100,23 +123,12 @@ impl Builder {
     fn instruction(&mut self, tables: &Tables, row: usize, w: &[u64]) -> Result<Instruction, String> {
         let instruction = match w[0] {
             0 => Instruction::Arithmetic(Arithmetic {
-                operator: [
-                    ArithmeticOperator::Add,
-                    ArithmeticOperator::Subtract,
-                    ArithmeticOperator::Divide,
-                    ArithmeticOperator::Multiply,
-                ][w[1] as usize],
+                operator: ARITHMETIC[w[1] as usize],
                 destination: self.reference(row, 1, w[2], w[3]),
                 source: self.source(row, w),
             }),
             1 => Instruction::Comparison(Comparison {
-                operator: [
-                    ComparisonOperator::Equal,
-                    ComparisonOperator::GreaterThanOrEqual,
-                    ComparisonOperator::GreaterThan,
-                    ComparisonOperator::LessThanOrEqual,
-                    ComparisonOperator::LessThan,
-                ][w[1] as usize],
+                operator: COMPARISON[w[1] as usize],
                 destination: self.reference(row, 1, w[2], w[3]),
                 lhs: self.reference(row, 2, w[4], w[5]),
                 rhs: match self.source(row, w) {
@@ -126,14 +138,7 @@ impl Builder {
                 },
             }),
             2 => Instruction::BinaryLogic(BinaryLogic {
-                operator: [
-                    BinaryOperator::And,
-                    BinaryOperator::Ior,
-                    BinaryOperator::Xor,
-                    BinaryOperator::Shl,
-                    BinaryOperator::Shr,
-                    BinaryOperator::Ashr,
-                ][w[1] as usize],
+                operator: BINARY[w[1] as usize],
                 destination: self.reference(row, 1, w[2], w[3]),
                 source: match self.source(row, w) {
                     ArithmeticOperand::LiteralInteger(x) => BinaryOperand::LiteralInteger(x),
@@ -142,7 +147,7 @@ impl Builder {
                 },
             }),
             3 => Instruction::UnaryLogic(UnaryLogic {
-                operator: [UnaryOperator::Neg, UnaryOperator::Not][w[1] as usize],
+                operator: UNARY[w[1] as usize],
                 operand: self.reference(row, 1, w[2], w[3]),
             }),
             4 => Instruction::Move(Move {
