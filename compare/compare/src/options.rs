@@ -21,14 +21,8 @@ pub struct Options {
 
 impl Options {
     pub fn read(mut words: impl Iterator<Item = String>) -> Result<Options, String> {
-        let mut options = Options {
-            only: None,
-            random: 1_000_000,
-            limits: 4_000,
-            seed: 1,
-            first: false,
-            vectors: false,
-        };
+        let mut options =
+            Options { only: None, random: 1_000_000, limits: 4_000, seed: 1, first: false, vectors: false };
         while let Some(word) = words.next() {
             let mut value = || words.next().ok_or_else(|| format!("{word} needs a value\n{HELP}"));
             match word.as_str() {

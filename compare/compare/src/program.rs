@@ -43,10 +43,7 @@ pub enum Layout {
 
 impl Program {
     pub fn tables(&self) -> Tables {
-        let mut t = Tables {
-            regions: self.regions.concat(),
-            ..Tables::default()
-        };
+        let mut t = Tables { regions: self.regions.concat(), ..Tables::default() };
         let parameters: Vec<&[Parameter]> = self.externs.iter().map(|e| &e.parameters[..]).collect();
         let firsts = place(self.layout, &parameters, &mut t.parameters);
         for (e, first) in self.externs.iter().zip(firsts) {
@@ -59,12 +56,8 @@ impl Program {
         for ((row, first_node), first_argument) in self.rows.iter().zip(first_nodes).zip(first_arguments) {
             t.instructions.extend(match row {
                 Row::Plain(words) => *words,
-                Row::Frame { operator, nodes } => {
-                    [8, *operator, first_node, nodes.len() as u64, 0, 0, 3, 0, 0]
-                }
-                Row::Call { name, arguments } => {
-                    [9, 0, *name, first_argument, arguments.len() as u64, 0, 3, 0, 0]
-                }
+                Row::Frame { operator, nodes } => [8, *operator, first_node, nodes.len() as u64, 0, 0, 3, 0, 0],
+                Row::Call { name, arguments } => [9, 0, *name, first_argument, arguments.len() as u64, 0, 3, 0, 0],
             });
         }
         t
@@ -133,7 +126,5 @@ fn place<const N: usize>(layout: Layout, lists: &[&[[u64; N]]], table: &mut Vec<
 
 /// The first row from which the words already lie in the table.
 fn found(table: &[u64], words: &[u64], width: usize) -> Option<u64> {
-    (0..table.len() / width)
-        .find(|row| table[row * width..].starts_with(words))
-        .map(|row| row as u64)
+    (0..table.len() / width).find(|row| table[row * width..].starts_with(words)).map(|row| row as u64)
 }

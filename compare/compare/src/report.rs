@@ -41,7 +41,10 @@ impl Report {
     }
 
     pub fn print(&self) {
-        println!("{:<10}{:>10}{:>10}{:>10}{:>10}{:>19}{:>9}", "set", "programs", CALLS[0], CALLS[1], CALLS[2], CALLS[3], "differ");
+        println!(
+            "{:<10}{:>10}{:>10}{:>10}{:>10}{:>19}{:>9}",
+            "set", "programs", CALLS[0], CALLS[1], CALLS[2], CALLS[3], "differ"
+        );
         let mut total = Line::new("all");
         for line in &self.lines {
             print_line(line);

@@ -32,14 +32,7 @@ impl Console for Proved {
         with_tables!(console_resolve, tables, row, rows.as_mut_ptr(), rows.len(), count.as_mut_ptr())
     }
 
-    fn access(
-        &self,
-        tables: &Tables,
-        row: u64,
-        reads: &mut [u64],
-        writes: &mut [u64],
-        counts: &mut [u64; 2],
-    ) -> u64 {
+    fn access(&self, tables: &Tables, row: u64, reads: &mut [u64], writes: &mut [u64], counts: &mut [u64; 2]) -> u64 {
         with_tables!(
             console_access,
             tables,
@@ -52,14 +45,7 @@ impl Console for Proved {
         )
     }
 
-    fn reference(
-        &self,
-        nodes: &[u64],
-        first: u64,
-        count: u64,
-        place: &mut [u64; 1],
-        found: &mut [u64; 3],
-    ) -> u64 {
+    fn reference(&self, nodes: &[u64], first: u64, count: u64, place: &mut [u64; 1], found: &mut [u64; 3]) -> u64 {
         let (length, place, found) = (nodes.len(), place.as_mut_ptr(), found.as_mut_ptr());
         unsafe { foreign::console_reference(nodes.as_ptr(), length, first, count, place, found) }
     }

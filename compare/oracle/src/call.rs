@@ -4,9 +4,8 @@ use crate::{
     program::{call, program, Naming},
 };
 use quil_rs::instruction::{
-    CallArgumentError, CallArgumentResolutionError, CallResolutionError, CallSignatureError,
-    ExternParameter, ExternParameterType, ExternSignature, ExternSignatureMap,
-    ResolvedCallArgument, UnresolvedCallArgument,
+    CallArgumentError, CallArgumentResolutionError, CallResolutionError, CallSignatureError, ExternParameter,
+    ExternParameterType, ExternSignature, ExternSignatureMap, ResolvedCallArgument, UnresolvedCallArgument,
 };
 use tables::{Answer, Tables, NO_RETURN, PARAMETER};
 
@@ -16,17 +15,12 @@ const ARGUMENT_ERRORS: u64 = 8;
 
 pub fn resolve(tables: &Tables, row: usize, room: usize) -> Result<Answer, String> {
     // The regions alone: the other rows have no say.
-    let declarations = Tables {
-        regions: tables.regions.clone(),
-        ..Tables::default()
-    };
+    let declarations = Tables { regions: tables.regions.clone(), ..Tables::default() };
     let regions = program(&declarations, Naming::Plain)?.memory_regions;
     let result = call(tables, tables.instruction(row))?.resolve_arguments(&regions, &signatures(tables)?);
     match result {
         Ok(arguments) => rows(0, room, arguments.iter().map(resolved_row)),
-        Err(CallResolutionError::NoMatchingExternInstruction(_)) => {
-            Ok(Answer::untouched(EXTERN_NOT_FOUND, 1, &[room]))
-        }
+        Err(CallResolutionError::NoMatchingExternInstruction(_)) => Ok(Answer::untouched(EXTERN_NOT_FOUND, 1, &[room])),
         Err(CallResolutionError::Signature { error, .. }) => match error {
             CallSignatureError::ParameterCount { .. } => Ok(Answer::untouched(ARGUMENT_COUNT, 1, &[room])),
             CallSignatureError::Arguments(errors) => rows(ARGUMENT_ERRORS, room, errors.iter().map(error_row)),
@@ -79,11 +73,8 @@ fn signatures(tables: &Tables) -> Result<ExternSignatureMap, String> {
         .externs()
         .map(|e| {
             let returned = if e[1] == NO_RETURN { None } else { Some(scalar(e[1])) };
-            let parameters = tables
-                .parameters_of(e[2], e[3])
-                .chunks(PARAMETER)
-                .map(parameter)
-                .collect::<Result<_, String>>()?;
+            let parameters =
+                tables.parameters_of(e[2], e[3]).chunks(PARAMETER).map(parameter).collect::<Result<_, String>>()?;
             Ok((name(e[0]), ExternSignature::new(returned, parameters)))
         })
         .collect::<Result<Vec<_>, String>>()?;
@@ -101,20 +92,12 @@ fn parameter(p: &[u64]) -> Result<ExternParameter, String> {
 
 fn resolved_row(argument: &ResolvedCallArgument) -> Result<[u64; 5], String> {
     Ok(match argument {
-        ResolvedCallArgument::Vector { memory_region_name, vector, mutable } => [
-            0,
-            number(memory_region_name)?,
-            kind(vector.data_type),
-            vector.length,
-            u64::from(*mutable),
-        ],
-        ResolvedCallArgument::MemoryReference { memory_reference, scalar_type, mutable } => [
-            1,
-            number(&memory_reference.name)?,
-            memory_reference.index,
-            kind(*scalar_type),
-            u64::from(*mutable),
-        ],
+        ResolvedCallArgument::Vector { memory_region_name, vector, mutable } => {
+            [0, number(memory_region_name)?, kind(vector.data_type), vector.length, u64::from(*mutable)]
+        }
+        ResolvedCallArgument::MemoryReference { memory_reference, scalar_type, mutable } => {
+            [1, number(&memory_reference.name)?, memory_reference.index, kind(*scalar_type), u64::from(*mutable)]
+        }
         ResolvedCallArgument::Immediate { value, scalar_type } => {
             [2, value.re.to_bits(), value.im.to_bits(), kind(*scalar_type), 0]
         }
@@ -128,13 +111,10 @@ fn error_row(error: &CallArgumentError) -> Result<[u64; 7], String> {
     };
     let (case, details) = match error {
         CallArgumentResolutionError::UndeclaredMemoryReference(name) => (1, [number(name)?, 0, 0, 0]),
-        CallArgumentResolutionError::MismatchedVector { expected, found } => (
-            2,
-            [kind(expected.data_type), expected.length, kind(found.data_type), found.length],
-        ),
-        CallArgumentResolutionError::MismatchedScalar { expected, found } => {
-            (3, [kind(*expected), kind(*found), 0, 0])
+        CallArgumentResolutionError::MismatchedVector { expected, found } => {
+            (2, [kind(expected.data_type), expected.length, kind(found.data_type), found.length])
         }
+        CallArgumentResolutionError::MismatchedScalar { expected, found } => (3, [kind(*expected), kind(*found), 0, 0]),
         CallArgumentResolutionError::InvalidVectorArgument(argument) => (4, argument_words(argument)?),
         CallArgumentResolutionError::ReturnArgument { found } => (5, argument_words(found)?),
         CallArgumentResolutionError::ImmediateArgumentForMutable(name) => (6, [number(name)?, 0, 0, 0]),

@@ -101,13 +101,7 @@ fn instruction_of(error: &TypeError) -> &quil_rs::instruction::Instruction {
 }
 
 /// The run with the tables' own names must have failed in the same row, in the same words.
-fn agree(
-    tables: &Tables,
-    plain: &Program,
-    shown: &TypeError,
-    marked: &TypeError,
-    row: usize,
-) -> Result<(), String> {
+fn agree(tables: &Tables, plain: &Program, shown: &TypeError, marked: &TypeError, row: usize) -> Result<(), String> {
     let same_row = plain.get_instruction(row) == Some(instruction_of(shown));
     let same_words = texts(shown)
         .iter()
@@ -123,9 +117,7 @@ fn agree(
 fn texts(error: &TypeError) -> Vec<String> {
     let texts: &[&String] = match error {
         TypeError::UndefinedMemoryReference { reference, .. } => &[reference],
-        TypeError::DataTypeMismatch { dst, dst_type, src, src_type, .. } => {
-            &[dst, dst_type, src, src_type]
-        }
+        TypeError::DataTypeMismatch { dst, dst_type, src, src_type, .. } => &[dst, dst_type, src, src_type],
         TypeError::RealValueRequired { value, data_type, .. } => &[value, data_type],
         TypeError::OperatorOperandMismatch { operator, correct_type, operand, data_type, .. } => {
             &[operator, correct_type, operand, data_type]

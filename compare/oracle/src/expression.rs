@@ -3,8 +3,8 @@ use crate::names::{name, number};
 use num_complex::Complex64;
 use quil_rs::{
     expression::{
-        Expression, ExpressionFunction, FunctionCallExpression, InfixExpression, InfixOperator,
-        PrefixExpression, PrefixOperator,
+        Expression, ExpressionFunction, FunctionCallExpression, InfixExpression, InfixOperator, PrefixExpression,
+        PrefixOperator,
     },
     instruction::MemoryReference,
 };
@@ -18,13 +18,8 @@ const FUNCTIONS: [ExpressionFunction; 5] = [
     ExpressionFunction::Sine,
     ExpressionFunction::SquareRoot,
 ];
-const INFIX: [InfixOperator; 5] = [
-    InfixOperator::Caret,
-    InfixOperator::Plus,
-    InfixOperator::Minus,
-    InfixOperator::Slash,
-    InfixOperator::Star,
-];
+const INFIX: [InfixOperator; 5] =
+    [InfixOperator::Caret, InfixOperator::Plus, InfixOperator::Minus, InfixOperator::Slash, InfixOperator::Star];
 const PREFIX: [PrefixOperator; 2] = [PrefixOperator::Plus, PrefixOperator::Minus];
 
 /// The tree. A leaf is made by `leaf` from its place and row; the rest is built from the last node back, so that
@@ -83,9 +78,5 @@ pub fn references(tables: &Tables, first: u64, count: u64) -> Result<Answer, Str
             }
         }
     }
-    Ok(Answer {
-        number: 0,
-        out,
-        lent: Vec::new(),
-    })
+    Ok(Answer { number: 0, out, lent: Vec::new() })
 }

@@ -7,11 +7,10 @@ use num_complex::Complex64;
 use quil_rs::{
     expression::Expression,
     instruction::{
-        Arithmetic, ArithmeticOperand, ArithmeticOperator, BinaryLogic, BinaryOperand,
-        BinaryOperator, Call, Comparison, ComparisonOperand, ComparisonOperator, Convert,
-        Declaration, Exchange, FrameIdentifier, Instruction, Load, MemoryReference, Move,
-        RawCapture, SetFrequency, SetPhase, SetScale, ShiftFrequency, ShiftPhase, Store,
-        SwapPhases, UnaryLogic, UnaryOperator, UnresolvedCallArgument,
+        Arithmetic, ArithmeticOperand, ArithmeticOperator, BinaryLogic, BinaryOperand, BinaryOperator, Call,
+        Comparison, ComparisonOperand, ComparisonOperator, Convert, Declaration, Exchange, FrameIdentifier,
+        Instruction, Load, MemoryReference, Move, RawCapture, SetFrequency, SetPhase, SetScale, ShiftFrequency,
+        ShiftPhase, Store, SwapPhases, UnaryLogic, UnaryOperator, UnresolvedCallArgument,
     },
     Program,
 };
@@ -50,11 +49,8 @@ pub enum Naming {
 }
 
 pub fn program(tables: &Tables, naming: Naming) -> Result<Program, String> {
-    let mut builder = Builder {
-        naming,
-        declared: tables.regions().map(|r| (r[0], (r[1], r[2]))).collect(),
-        program: Program::new(),
-    };
+    let mut builder =
+        Builder { naming, declared: tables.regions().map(|r| (r[0], (r[1], r[2]))).collect(), program: Program::new() };
     if naming == Naming::Plain {
         for r in tables.regions() {
             builder.declare(name(r[0]), r[1], r[2]);
@@ -75,10 +71,7 @@ pub fn call(tables: &Tables, words: &[u64]) -> Result<Call, String> {
         .map(|a| match a[0] {
             0 => UnresolvedCallArgument::Identifier(name(a[1])),
             1 => UnresolvedCallArgument::MemoryReference(MemoryReference::new(name(a[1]), a[2])),
-            _ => UnresolvedCallArgument::Immediate(Complex64::new(
-                f64::from_bits(a[1]),
-                f64::from_bits(a[2]),
-            )),
+            _ => UnresolvedCallArgument::Immediate(Complex64::new(f64::from_bits(a[1]), f64::from_bits(a[2]))),
         })
         .collect();
     Call::try_new(name(words[2]), arguments).map_err(|error| error.to_string())
@@ -150,10 +143,9 @@ impl Builder {
                 operator: UNARY[w[1] as usize],
                 operand: self.reference(row, 1, w[2], w[3]),
             }),
-            4 => Instruction::Move(Move {
-                destination: self.reference(row, 1, w[2], w[3]),
-                source: self.source(row, w),
-            }),
+            4 => {
+                Instruction::Move(Move { destination: self.reference(row, 1, w[2], w[3]), source: self.source(row, w) })
+            }
             5 => Instruction::Exchange(Exchange {
                 left: self.reference(row, 1, w[2], w[3]),
                 right: self.reference(row, 2, w[4], w[5]),

@@ -1,13 +1,6 @@
 //! quil-rs's own files for the kept answers, unchanged, among stand-ins for the files that are not published.
 //! The README beside this crate says which file is whose.
-#![allow(
-    dead_code,
-    unexpected_cfgs,
-    unknown_lints,
-    unused_doc_comments,
-    unused_imports,
-    unused_variables
-)]
+#![allow(dead_code, unexpected_cfgs, unknown_lints, unused_doc_comments, unused_imports, unused_variables)]
 
 #[macro_use]
 mod macros;

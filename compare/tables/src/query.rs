@@ -4,11 +4,20 @@
 pub enum Query {
     Check,
     /// The CALL's row, and the lent buffer's length.
-    Resolve { row: u64, room: usize },
+    Resolve {
+        row: u64,
+        room: usize,
+    },
     /// The CALL's row, and the lists' lengths.
-    Access { row: u64, room: [usize; 2] },
+    Access {
+        row: u64,
+        room: [usize; 2],
+    },
     /// A tree's first node and node count: all its references, then the end, asked twice.
-    References { first: u64, count: u64 },
+    References {
+        first: u64,
+        count: u64,
+    },
 }
 
 /// The number, the out-array at exit and every lent buffer at exit.
@@ -31,11 +40,7 @@ pub fn blanks(length: usize) -> Vec<u64> {
 impl Answer {
     /// An out-array and buffers as they were lent.
     pub fn untouched(number: u64, out: usize, lent: &[usize]) -> Self {
-        Answer {
-            number,
-            out: blanks(out),
-            lent: lent.iter().map(|&length| blanks(length)).collect(),
-        }
+        Answer { number, out: blanks(out), lent: lent.iter().map(|&length| blanks(length)).collect() }
     }
 }
 

@@ -45,10 +45,7 @@ pub fn each(visit: &mut dyn FnMut(Program)) {
         }
     }
     for operator in 0..2 {
-        visit(Program {
-            rows: vec![Row::Plain([10, operator, 0, 0, 0, 0, 3, 0, 0])],
-            ..Program::default()
-        });
+        visit(Program { rows: vec![Row::Plain([10, operator, 0, 0, 0, 0, 3, 0, 0])], ..Program::default() });
     }
 }
 

@@ -6,8 +6,7 @@ pub mod small;
 use crate::random_numbers::Random;
 
 /// Names that are likely to be confused: around 0, 2^63 and 2^64-1.
-pub const NAMES: [u64; 10] =
-    [0, 1, 2, 3, (1 << 63) - 1, 1 << 63, u64::MAX - 3, u64::MAX - 2, u64::MAX - 1, u64::MAX];
+pub const NAMES: [u64; 10] = [0, 1, 2, 3, (1 << 63) - 1, 1 << 63, u64::MAX - 3, u64::MAX - 2, u64::MAX - 1, u64::MAX];
 
 const EPSILON: u64 = 0x3CB0_0000_0000_0000;
 

@@ -37,8 +37,7 @@ impl Rows<'_> {
     /// A name of one of these kinds if there is one and care is taken; else any declared name or any at all.
     fn name(&mut self, kinds: &[u64]) -> u64 {
         if self.careful() {
-            let fit: Vec<u64> =
-                self.program.regions.iter().filter(|r| kinds.contains(&r[1])).map(|r| r[0]).collect();
+            let fit: Vec<u64> = self.program.regions.iter().filter(|r| kinds.contains(&r[1])).map(|r| r[0]).collect();
             if let Some(&name) = self.random.choose(&fit) {
                 return name;
             }

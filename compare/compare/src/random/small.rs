@@ -11,10 +11,8 @@ use crate::{
 const LENGTHS: [u64; 5] = [0, 1, 2, 3, u64::MAX];
 
 pub fn program(random: &mut Random) -> Program {
-    let mut program = Program {
-        layout: random.pick(&[Layout::InOrder, Layout::Backward, Layout::Shared]),
-        ..Program::default()
-    };
+    let mut program =
+        Program { layout: random.pick(&[Layout::InOrder, Layout::Backward, Layout::Shared]), ..Program::default() };
     let count = random.size(7);
     program.regions = regions(random, count);
     let count = random.size(4);

@@ -29,9 +29,6 @@ impl WriteFloatOptions {
     }
 }
 
-pub fn to_string_with_options<T: Display, const FORMAT: u128>(
-    value: T,
-    _: &WriteFloatOptions,
-) -> String {
+pub fn to_string_with_options<T: Display, const FORMAT: u128>(value: T, _: &WriteFloatOptions) -> String {
     value.to_string()
 }

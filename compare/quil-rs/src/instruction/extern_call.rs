@@ -4,19 +4,14 @@ include!("published_extern_call.rs");
 impl ExternSignatureMap {
     /// The map itself. The public construction parses texts and refuses a signature with neither return nor
     /// parameters, which the tables allow.
-    pub fn of_signatures(
-        signatures: impl IntoIterator<Item = (String, ExternSignature)>,
-    ) -> Self {
+    pub fn of_signatures(signatures: impl IntoIterator<Item = (String, ExternSignature)>) -> Self {
         ExternSignatureMap(signatures.into_iter().collect())
     }
 }
 
 impl Call {
     /// `default_memory_accesses`, which its own crate alone may call.
-    pub fn accesses(
-        &self,
-        extern_signatures: &ExternSignatureMap,
-    ) -> Result<MemoryAccesses, CallResolutionError> {
+    pub fn accesses(&self, extern_signatures: &ExternSignatureMap) -> Result<MemoryAccesses, CallResolutionError> {
         self.default_memory_accesses(extern_signatures)
     }
 }

@@ -19,10 +19,7 @@ impl<'a, F> ProgramDefGateSequenceExpander<'a, F> {
         ProgramDefGateSequenceExpander(PhantomData)
     }
 
-    pub fn expand(
-        &self,
-        _: &[Instruction],
-    ) -> Result<Vec<Instruction>, DefGateSequenceExpansionError> {
+    pub fn expand(&self, _: &[Instruction]) -> Result<Vec<Instruction>, DefGateSequenceExpansionError> {
         Err(DefGateSequenceExpansionError)
     }
 

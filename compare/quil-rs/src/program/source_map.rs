@@ -18,9 +18,7 @@ pub struct SourceMap<S, T> {
 
 impl<S, T> Default for SourceMap<S, T> {
     fn default() -> Self {
-        SourceMap {
-            entries: Vec::new(),
-        }
+        SourceMap { entries: Vec::new() }
     }
 }
 

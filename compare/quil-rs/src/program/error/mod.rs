@@ -14,9 +14,7 @@ pub struct LeftoverError<T> {
 
 impl<T> LeftoverError<T> {
     pub fn map_parsed<T2>(self, map: impl Fn(T) -> T2) -> LeftoverError<T2> {
-        LeftoverError {
-            parsed: map(self.parsed),
-        }
+        LeftoverError { parsed: map(self.parsed) }
     }
 
     pub fn recover(self) -> T {
