@@ -106,7 +106,7 @@ fn agree(tables: &Tables, plain: &Program, shown: &TypeError, marked: &TypeError
     let same_words = texts(shown)
         .iter()
         .zip(texts(marked))
-        .all(|(text, marked)| *text == unmarked(tables, row, &marked) || numbers(text, &marked));
+        .all(|(text, marked)| *text == unmarked(tables, row, marked) || numbers(text, marked));
     if same_row && same_words && texts(shown).len() == texts(marked).len() {
         return Ok(());
     }
@@ -114,16 +114,15 @@ fn agree(tables: &Tables, plain: &Program, shown: &TypeError, marked: &TypeError
 }
 
 /// An error's texts after its instruction.
-fn texts(error: &TypeError) -> Vec<String> {
-    let texts: &[&String] = match error {
-        TypeError::UndefinedMemoryReference { reference, .. } => &[reference],
-        TypeError::DataTypeMismatch { dst, dst_type, src, src_type, .. } => &[dst, dst_type, src, src_type],
-        TypeError::RealValueRequired { value, data_type, .. } => &[value, data_type],
+fn texts(error: &TypeError) -> Vec<&str> {
+    match error {
+        TypeError::UndefinedMemoryReference { reference, .. } => vec![reference],
+        TypeError::DataTypeMismatch { dst, dst_type, src, src_type, .. } => vec![dst, dst_type, src, src_type],
+        TypeError::RealValueRequired { value, data_type, .. } => vec![value, data_type],
         TypeError::OperatorOperandMismatch { operator, correct_type, operand, data_type, .. } => {
-            &[operator, correct_type, operand, data_type]
+            vec![operator, correct_type, operand, data_type]
         }
-    };
-    texts.iter().map(|text| text.to_string()).collect()
+    }
 }
 
 /// The text with the table's name for the marked one.
