@@ -1,0 +1,4 @@
+//! The comparison of the proved library with quil-rs.
+fn main() {
+    comparison::main(Box::new(library::Proved));
+}

@@ -1,0 +1,45 @@
+//! console.h's declarations. TABLES is six slices: regions, externs, parameters, nodes, arguments, instructions.
+
+macro_rules! console_calls {
+    ($(fn $name:ident($($argument:ident: $type:ty),*);)*) => {
+        extern "C" {
+            $(
+                pub fn $name(
+                    regions: *const u64, regions_length: usize,
+                    externs: *const u64, externs_length: usize,
+                    parameters: *const u64, parameters_length: usize,
+                    nodes: *const u64, nodes_length: usize,
+                    arguments: *const u64, arguments_length: usize,
+                    instructions: *const u64, instructions_length: usize,
+                    $($argument: $type),*
+                ) -> u64;
+            )*
+        }
+    };
+}
+
+console_calls! {
+    fn console_check(error: *mut u64);
+
+    fn console_resolve(row: u64, rows: *mut u64, rows_length: usize, count: *mut u64);
+
+    fn console_access(
+        row: u64,
+        reads: *mut u64,
+        reads_length: usize,
+        writes: *mut u64,
+        writes_length: usize,
+        counts: *mut u64
+    );
+}
+
+extern "C" {
+    pub fn console_reference(
+        nodes: *const u64,
+        nodes_length: usize,
+        first: u64,
+        node_count: u64,
+        place: *mut u64,
+        found: *mut u64,
+    ) -> u64;
+}

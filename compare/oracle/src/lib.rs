@@ -1,0 +1,18 @@
+//! quil-rs's answers about a program in tables: tables to quil-rs's types, its own functions, its results to words.
+mod call;
+mod check;
+mod expression;
+mod names;
+mod program;
+
+use tables::{Answer, Query, Tables};
+
+/// quil-rs's answer with the buffers as they should be left, or why there is none.
+pub fn answer(tables: &Tables, query: Query) -> Result<Answer, String> {
+    match query {
+        Query::Check => check::answer(tables),
+        Query::Resolve { row, room } => call::resolve(tables, row as usize, room),
+        Query::Access { row, room } => call::access(tables, row as usize, room),
+        Query::References { first, count } => expression::references(tables, first, count),
+    }
+}

@@ -1,0 +1,1 @@
+//! Stand-in: control flow analysis takes no part.

@@ -1,0 +1,1 @@
+//! Stand-in: scheduling takes no part.
