@@ -50,6 +50,13 @@ sources() {
     done <quil-rs.sha256
 }
 
+# The plain machine, copied so that a sensitivity run can change a line of it.
+plain() {
+    rm -rf target/plain
+    mkdir -p target
+    cp -r plain target/plain
+}
+
 # The proved library.
 library() {
     command -v rt >/dev/null || fail "no rt on the path: the library is built by the Rattle kit"
@@ -85,13 +92,24 @@ copy_crate() {
 prepare() {
     packages
     sources
+    plain
     library
     copy
 }
 
 # cargo with Debian's crates and no network.
-build() {
-    cargo build -q -j "${JOBS:-1}" --release --offline \
+offline() {
+    command=$1
+    shift
+    cargo "$command" -q -j "${JOBS:-1}" --release --offline \
         --config 'source.crates-io.replace-with="debian"' \
         --config "source.debian.directory=\"$registry\"" "$@"
+}
+
+build() { offline build "$@"; }
+
+# 01's bench lines, by hand, on the plain machine.
+bench_lines() {
+    say "01's bench lines on the plain machine"
+    offline test -p plain >target/bench_lines.log 2>&1 || fail "not as 01 says: see compare/target/bench_lines.log"
 }

@@ -1,6 +1,8 @@
-# Runs against deliberately wrong copies; sourced by run, in its folder, after build.sh.
-#   wrong/oracle/*.edit     a line of quil-rs's changed, against the proved library
-#   wrong/library/*.edit    a line of ours changed in an unproved copy, against quil-rs
+# Runs against deliberately wrong copies; sourced by run, in its folder, after build.sh. The sets:
+#   library    wrong/library/*.edit    a line of ours changed in an unproved copy, against quil-rs
+#   oracle     wrong/oracle/*.edit     a line of quil-rs's changed, against the proved library
+#   steps      wrong/steps/*.edit      a line of ours changed in an unproved copy, call lists against the plain machine
+#   plain      wrong/plain/*.edit      a line of the plain machine's changed, call lists against the proved library
 
 # apply EDIT FILE: the line is there exactly once.
 apply() {
@@ -9,48 +11,87 @@ apply() {
         END { exit($found == 1 ? 0 : 1) }' "$2" || fail "$1 does not apply to $2"
 }
 
+# fresh SET: the copy that its edits change, as it should be.
+fresh() {
+    case $1 in
+    library | steps) copy ;;
+    oracle) sources ;;
+    plain) plain ;;
+    esac
+}
+
+# changed EDIT: applied to that copy.
+changed() {
+    file=$(sed -n 's/^file: //p' "$1")
+    case $1 in
+    wrong/library/* | wrong/steps/*) apply "$1" "target/copy/${file%%/*}/src/${file#*/}.rs" ;;
+    wrong/oracle/*) apply "$1" "target/quil-rs/src/$file" ;;
+    wrong/plain/*) apply "$1" "target/plain/src/$file" ;;
+    esac
+}
+
+# How many programs or lists a program plays.
+amount() {
+    case $1 in
+    compare | copy) echo --random 20000 --limits 40 ;;
+    *) echo --lists 20000 ;;
+    esac
+}
+
 # noticed EDIT PROGRAM: the comparison with that wrong copy must differ.
 noticed() {
     name=${1#wrong/}
     what=$(sed -n 's/^# //p' "$1")
     log=target/wrong/$(echo "${name%.edit}" | tr / _).log
-    if "target/release/$2" --first --random 20000 --limits 40 >"$log" 2>/dev/null; then
+    if "target/release/$2" --first $(amount "$2") >"$log" 2>/dev/null; then
         echo "NOT NOTICED  ${name%.edit}: $what"
         unnoticed=$((unnoticed + 1))
     elif grep -q '^DIFFERS' "$log"; then
         echo "noticed      ${name%.edit}: $what"
-        # The smallest program as text, its last lines.
-        sed -n '/^DIFFERS/,/^asked/{/^DIFFERS/d;/^[a-z]* [0-9]*: /d;/^asked/d;/^$/d;s/^/                 /;p}' "$log" | tail -n 4
+        # The smallest program or list as text, its last lines.
+        sed -n '/^DIFFERS/,/^$/{/^DIFFERS/d;/^[a-z]* [0-9]*: /d;/^memory of/d;/^journal of/d;/^asked/,$d;/^$/d;s/^/                 /;p}' "$log" |
+            tail -n 4
     else
         fail "no comparison with ${name%.edit}: see compare/$log"
     fi
     count=$((count + 1))
 }
 
+# agrees PROGRAM: an unproved copy without an edit must agree.
+agrees() {
+    copy
+    build -p copy --bin "$1"
+    "target/release/$1" $(amount "$1") >target/wrong/none.log 2>/dev/null ||
+        fail "the unchanged copy differs: see compare/target/wrong/none.log"
+    echo "agrees       the unproved copy without an edit ($1)"
+}
+
+# each SET PACKAGE PROGRAM: every edit of a set, each on a fresh copy.
+each() {
+    for edit in wrong/"$1"/*.edit; do
+        fresh "$1"
+        changed "$edit"
+        build -p "$2" --bin "$3" 2>target/wrong/build.log || fail "$edit does not compile: see compare/target/wrong/build.log"
+        noticed "$edit" "$3"
+    done
+    # The program of the last wrong copy must not be taken for the right one.
+    rm -f "target/release/$3"
+    fresh "$1"
+}
+
 sensitivity() {
     unnoticed=0
     count=0
     mkdir -p target/wrong
-    say "building the unproved copy, which must agree"
-    build -p copy 2>/dev/null || build -p copy
-    target/release/copy --random 20000 --limits 40 >target/wrong/none.log 2>/dev/null ||
-        fail "the unchanged copy differs: see compare/target/wrong/none.log"
-    echo "agrees       the unproved copy without an edit"
-    for edit in wrong/library/*.edit; do
-        copy
-        file=$(sed -n 's/^file: //p' "$edit")
-        apply "$edit" "target/copy/${file%%/*}/src/${file#*/}.rs"
-        build -p copy 2>target/wrong/build.log || fail "$edit does not compile: see compare/target/wrong/build.log"
-        noticed "$edit" copy
+    for set in ${*:-library oracle steps plain}; do
+        case $set in
+        library) agrees copy && each library copy copy ;;
+        oracle) each oracle compare compare ;;
+        steps) agrees copy_sessions && each steps copy copy_sessions ;;
+        plain) each plain sessions sessions ;;
+        *) fail "no such set: $set" ;;
+        esac
     done
-    for edit in wrong/oracle/*.edit; do
-        sources
-        apply "$edit" "target/quil-rs/src/$(sed -n 's/^file: //p' "$edit")"
-        build -p compare 2>target/wrong/build.log || fail "$edit does not compile: see compare/target/wrong/build.log"
-        noticed "$edit" compare
-    done
-    sources
-    copy
     echo "wrong copies $count, not noticed $unnoticed"
     [ "$unnoticed" = 0 ]
 }

@@ -5,7 +5,6 @@ mod exhaustive;
 mod options;
 mod program;
 mod random;
-mod random_numbers;
 mod report;
 mod shrink;
 mod vectors;
@@ -15,7 +14,7 @@ use options::Options;
 use program::Program;
 use random_numbers::Random;
 use report::{Line, Progress, Report};
-use tables::{quil_text, words_text, Console};
+use tables::{quil_text, random_numbers, words_text, Console};
 
 /// quil-rs goes down a tree by calling itself, so a tree of 2,048 levels wants room.
 const STACK: usize = 1 << 30;

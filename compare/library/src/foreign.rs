@@ -31,6 +31,33 @@ console_calls! {
         writes_length: usize,
         counts: *mut u64
     );
+
+    fn console_open(
+        memory: *mut u64,
+        memory_length: usize,
+        journal: *const u64,
+        journal_length: usize,
+        position: *mut u64,
+        error: *mut u64
+    );
+
+    fn console_forward(
+        memory: *mut u64,
+        memory_length: usize,
+        journal: *mut u64,
+        journal_length: usize,
+        position: *mut u64,
+        reply: *const u64,
+        reply_length: usize
+    );
+
+    fn console_back(
+        memory: *mut u64,
+        memory_length: usize,
+        journal: *const u64,
+        journal_length: usize,
+        position: *mut u64
+    );
 }
 
 extern "C" {

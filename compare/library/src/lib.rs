@@ -1,7 +1,7 @@
 //! The proved library, by its C interface (crates/console_c/console.h).
 mod foreign;
 
-use tables::{Console, Tables};
+use tables::{Console, Session, Tables};
 
 pub struct Proved;
 
@@ -48,5 +48,60 @@ impl Console for Proved {
     fn reference(&self, nodes: &[u64], first: u64, count: u64, place: &mut [u64; 1], found: &mut [u64; 3]) -> u64 {
         let (length, place, found) = (nodes.len(), place.as_mut_ptr(), found.as_mut_ptr());
         unsafe { foreign::console_reference(nodes.as_ptr(), length, first, count, place, found) }
+    }
+}
+
+impl Session for Proved {
+    fn open(
+        &self,
+        tables: &Tables,
+        memory: &mut [u64],
+        journal: &[u64],
+        position: &mut [u64; 2],
+        error: &mut [u64; 6],
+    ) -> u64 {
+        with_tables!(
+            console_open,
+            tables,
+            memory.as_mut_ptr(),
+            memory.len(),
+            journal.as_ptr(),
+            journal.len(),
+            position.as_mut_ptr(),
+            error.as_mut_ptr()
+        )
+    }
+
+    fn forward(
+        &self,
+        tables: &Tables,
+        memory: &mut [u64],
+        journal: &mut [u64],
+        position: &mut [u64; 2],
+        reply: &[u64],
+    ) -> u64 {
+        with_tables!(
+            console_forward,
+            tables,
+            memory.as_mut_ptr(),
+            memory.len(),
+            journal.as_mut_ptr(),
+            journal.len(),
+            position.as_mut_ptr(),
+            reply.as_ptr(),
+            reply.len()
+        )
+    }
+
+    fn back(&self, tables: &Tables, memory: &mut [u64], journal: &[u64], position: &mut [u64; 2]) -> u64 {
+        with_tables!(
+            console_back,
+            tables,
+            memory.as_mut_ptr(),
+            memory.len(),
+            journal.as_ptr(),
+            journal.len(),
+            position.as_mut_ptr()
+        )
     }
 }

@@ -2,10 +2,13 @@
 //! nothing else.
 mod console;
 mod query;
+pub mod random_numbers;
+mod session;
 mod text;
 
 pub use console::Console;
 pub use query::{blank, blanks, Answer, Query};
+pub use session::Session;
 pub use text::{quil_text, words_text};
 
 /// Words in a row of each table.

@@ -1,0 +1,23 @@
+//! A plain machine for open, forward and back, written from the paper (01) alone: not from the library's definitions
+//! and not from quil-rs. It is slow and looks at everything anew in each call.
+mod call;
+mod check;
+mod history;
+mod layout;
+mod loader;
+mod operators;
+mod rows;
+mod session;
+mod step;
+
+pub use call::{resolve, Resolved};
+pub use history::History;
+pub use layout::{cell_count, regions, word_fits, Region};
+pub use loader::load;
+pub use session::Plain;
+
+/// Kinds of regions and cells.
+pub const BIT: u64 = 0;
+pub const INTEGER: u64 = 1;
+pub const OCTET: u64 = 2;
+pub const REAL: u64 = 3;

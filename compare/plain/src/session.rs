@@ -1,0 +1,119 @@
+//! Open, forward and back on lent memory and a lent journal.
+use crate::{
+    call::resolve,
+    check::type_error,
+    layout::{cell, set_cell, zeros, Cell},
+    loader::{load, need},
+    rows::{instruction, Instruction},
+    step::outcome,
+};
+use tables::{Session, Tables, INSTRUCTION};
+
+/// Words in a journal entry.
+const ENTRY: usize = 3;
+
+/// The machine on lent buffers.
+pub struct Plain;
+
+impl Session for Plain {
+    fn open(
+        &self,
+        tables: &Tables,
+        memory: &mut [u64],
+        journal: &[u64],
+        position: &mut [u64; 2],
+        error: &mut [u64; 6],
+    ) -> u64 {
+        answer(open(tables, memory, journal, error), position)
+    }
+
+    fn forward(
+        &self,
+        tables: &Tables,
+        memory: &mut [u64],
+        journal: &mut [u64],
+        position: &mut [u64; 2],
+        reply: &[u64],
+    ) -> u64 {
+        answer(forward(tables, memory, journal, *position, reply), position)
+    }
+
+    fn back(&self, tables: &Tables, memory: &mut [u64], journal: &[u64], position: &mut [u64; 2]) -> u64 {
+        answer(back(tables, memory, journal, *position), position)
+    }
+}
+
+fn answer(done: Result<[u64; 2], u64>, position: &mut [u64; 2]) -> u64 {
+    match done {
+        Ok(new) => {
+            *position = new;
+            0
+        }
+        Err(number) => number,
+    }
+}
+
+fn open(tables: &Tables, memory: &mut [u64], journal: &[u64], error: &mut [u64; 6]) -> Result<[u64; 2], u64> {
+    let cells = load(tables, memory.len(), journal.len())?;
+    if let Some(found) = type_error(tables) {
+        *error = found;
+        return Err(5);
+    }
+    let rows = 0..tables.instructions.len() / INSTRUCTION;
+    need(rows.clone().all(|row| !matches!(instruction(tables, row), Instruction::Other)), 9)?;
+    for row in rows {
+        if let Instruction::Call { name, first_argument, arguments } = instruction(tables, row) {
+            resolve(tables, name, first_argument, arguments)?;
+        }
+    }
+    memory[..2 * cells].copy_from_slice(&zeros(tables));
+    Ok([0, 0])
+}
+
+fn forward(
+    tables: &Tables,
+    memory: &mut [u64],
+    journal: &mut [u64],
+    [done, used]: [u64; 2],
+    reply: &[u64],
+) -> Result<[u64; 2], u64> {
+    let cells = load(tables, memory.len(), journal.len())?;
+    let (rows, entries) = lengths(tables, journal);
+    need(done <= rows && used <= entries, 19)?;
+    need(done < rows, 11)?;
+    let writes = outcome(tables, &memory[..2 * cells], done as usize, reply)?;
+    let changes = writes.len() as u64;
+    need(changes + 1 <= entries - used, 13)?;
+    let mut log = Vec::new();
+    for write in writes {
+        let Cell { kind, word } = cell(memory, write.cell);
+        log.extend([write.cell, kind, word]);
+        set_cell(memory, write.cell, write.to);
+    }
+    log.extend([changes, 0, 0]);
+    journal[ENTRY * used as usize..][..log.len()].copy_from_slice(&log);
+    Ok([done + 1, used + changes + 1])
+}
+
+fn back(tables: &Tables, memory: &mut [u64], journal: &[u64], [done, used]: [u64; 2]) -> Result<[u64; 2], u64> {
+    let cells = load(tables, memory.len(), journal.len())? as u64;
+    let (rows, entries) = lengths(tables, journal);
+    need(done <= rows && used <= entries, 19)?;
+    need(done > 0, 12)?;
+    need(used > 0, 19)?;
+    let closing = used - 1;
+    let changes = journal[ENTRY * closing as usize];
+    need(changes <= closing, 19)?;
+    let first = closing - changes;
+    let log = &journal[ENTRY * first as usize..ENTRY * closing as usize];
+    need(log.chunks(ENTRY).all(|entry| entry[0] < cells), 19)?;
+    for entry in log.chunks(ENTRY).rev() {
+        set_cell(memory, entry[0], Cell { kind: entry[1], word: entry[2] });
+    }
+    Ok([done - 1, first])
+}
+
+/// Rows of the program, entries of the journal.
+fn lengths(tables: &Tables, journal: &[u64]) -> (u64, u64) {
+    ((tables.instructions.len() / INSTRUCTION) as u64, (journal.len() / ENTRY) as u64)
+}

@@ -1,0 +1,83 @@
+//! A call list: the tables, what is lent, and what is done one after the other.
+use std::fmt::Write;
+use tables::{quil_text, words_text, Tables};
+
+#[derive(Clone, Debug, PartialEq)]
+pub struct List {
+    pub tables: Tables,
+    /// The lent words before the first call.
+    pub memory: Vec<u64>,
+    pub journal: Vec<u64>,
+    pub position: [u64; 2],
+    pub actions: Vec<Action>,
+}
+
+#[derive(Clone, Debug, PartialEq)]
+pub enum Action {
+    Open,
+    /// With its reply.
+    Forward(Vec<u64>),
+    Back,
+    /// A foreign writer's word at that place of memory, journal or one of the six tables; and its position.
+    Memory(usize, u64),
+    Journal(usize, u64),
+    Table(usize, usize, u64),
+    Position([u64; 2]),
+}
+
+/// One of the six tables, in 01's order.
+pub fn table_mut(tables: &mut Tables, table: usize) -> &mut Vec<u64> {
+    match table {
+        0 => &mut tables.regions,
+        1 => &mut tables.externs,
+        2 => &mut tables.parameters,
+        3 => &mut tables.nodes,
+        4 => &mut tables.arguments,
+        _ => &mut tables.instructions,
+    }
+}
+
+/// What a foreign writer does to a table.
+pub fn set_table(tables: &mut Tables, table: usize, at: usize, word: u64) {
+    if let Some(place) = table_mut(tables, table).get_mut(at) {
+        *place = word;
+    }
+}
+
+impl List {
+    pub fn text(&self) -> String {
+        let mut text = words_text(&self.tables);
+        if plain::load(&self.tables, usize::MAX, 0).is_ok() {
+            text += &quil_text(&self.tables);
+        }
+        let _ = writeln!(text, "memory of {} words: {}", self.memory.len(), some(&self.memory));
+        let _ = writeln!(text, "journal of {} words: {}", self.journal.len(), some(&self.journal));
+        let _ = writeln!(text, "first position {:?}", self.position);
+        for action in &self.actions {
+            let _ = writeln!(text, "{}", action.text());
+        }
+        text
+    }
+}
+
+impl Action {
+    pub fn text(&self) -> String {
+        match self {
+            Action::Open => "open".to_string(),
+            Action::Forward(reply) if reply.is_empty() => "forward".to_string(),
+            Action::Forward(reply) => format!("forward, reply of {} words: {}", reply.len(), some(reply)),
+            Action::Back => "back".to_string(),
+            Action::Memory(at, word) => format!("foreign memory word {at} = {word:x}"),
+            Action::Journal(at, word) => format!("foreign journal word {at} = {word:x}"),
+            Action::Table(table, at, word) => format!("foreign word {at} of table {table} = {word:x}"),
+            Action::Position(position) => format!("foreign position {position:?}"),
+        }
+    }
+}
+
+/// The first words, in hexadecimal.
+fn some(words: &[u64]) -> String {
+    let shown: Vec<String> = words.iter().take(24).map(|word| format!("{word:x}")).collect();
+    let rest = if words.len() > 24 { " .." } else { "" };
+    shown.join(" ") + rest
+}

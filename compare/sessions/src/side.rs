@@ -1,0 +1,90 @@
+//! A machine with what was lent to it.
+use crate::list::{Action, List};
+use tables::{blanks, Session, Tables};
+
+/// Words on either side of a lent buffer that no call may touch.
+const GUARD: usize = 4;
+
+/// The type error's words before a call.
+const NO_ERROR: [u64; 6] = [0xE; 6];
+
+pub struct Side<'a> {
+    machine: &'a dyn Session,
+    /// Guards included.
+    memory: Vec<u64>,
+    journal: Vec<u64>,
+    pub position: [u64; 2],
+    error: [u64; 6],
+}
+
+fn guarded(words: &[u64]) -> Vec<u64> {
+    [blanks(GUARD), words.to_vec(), blanks(GUARD)].concat()
+}
+
+fn lent(words: &mut [u64]) -> &mut [u64] {
+    let length = words.len() - 2 * GUARD;
+    &mut words[GUARD..][..length]
+}
+
+impl<'a> Side<'a> {
+    pub fn new(machine: &'a dyn Session, list: &List) -> Self {
+        let (memory, journal) = (guarded(&list.memory), guarded(&list.journal));
+        Side { machine, memory, journal, position: list.position, error: NO_ERROR }
+    }
+
+    pub fn memory(&self) -> &[u64] {
+        &self.memory[GUARD..self.memory.len() - GUARD]
+    }
+
+    pub fn journal(&self) -> &[u64] {
+        &self.journal[GUARD..self.journal.len() - GUARD]
+    }
+
+    /// The answer to a call; what a foreign writer does has none.
+    pub fn act(&mut self, tables: &Tables, action: &Action) -> Option<u64> {
+        let (memory, journal) = (lent(&mut self.memory), lent(&mut self.journal));
+        let position = &mut self.position;
+        self.error = NO_ERROR;
+        match action {
+            Action::Open => Some(self.machine.open(tables, memory, journal, position, &mut self.error)),
+            Action::Forward(reply) => Some(self.machine.forward(tables, memory, journal, position, reply)),
+            Action::Back => Some(self.machine.back(tables, memory, journal, position)),
+            Action::Memory(at, word) => {
+                set(memory, *at, *word);
+                None
+            }
+            Action::Journal(at, word) => {
+                set(journal, *at, *word);
+                None
+            }
+            Action::Position(new) => {
+                *position = *new;
+                None
+            }
+            Action::Table(..) => None,
+        }
+    }
+
+    /// The first word in which the library's side differs.
+    pub fn differs(&self, library: &Side) -> Option<String> {
+        words("position", &self.position, &library.position, 0)
+            .or_else(|| words("type error", &self.error, &library.error, 0))
+            .or_else(|| words("memory", &self.memory, &library.memory, GUARD))
+            .or_else(|| words("journal", &self.journal, &library.journal, GUARD))
+    }
+}
+
+fn set(words: &mut [u64], at: usize, word: u64) {
+    if let Some(place) = words.get_mut(at) {
+        *place = word;
+    }
+}
+
+fn words(name: &str, ours: &[u64], theirs: &[u64], guard: usize) -> Option<String> {
+    if ours == theirs {
+        return None;
+    }
+    let at = (0..ours.len()).find(|&at| ours[at] != theirs[at])?;
+    let (place, length) = (at as i64 - guard as i64, ours.len() - 2 * guard);
+    Some(format!("{name}, word {place} of {length}: plain {:x}, library {:x}", ours[at], theirs[at]))
+}

@@ -1,0 +1,28 @@
+//! The stepping calls as the proved library, its unproved copies and the plain machine offer them.
+use crate::Tables;
+
+/// Each returns 0 or the refusal's number. A position is steps done, journal entries used.
+pub trait Session {
+    /// The position on 0, the type error on 5.
+    fn open(
+        &self,
+        tables: &Tables,
+        memory: &mut [u64],
+        journal: &[u64],
+        position: &mut [u64; 2],
+        error: &mut [u64; 6],
+    ) -> u64;
+
+    /// The new position on 0.
+    fn forward(
+        &self,
+        tables: &Tables,
+        memory: &mut [u64],
+        journal: &mut [u64],
+        position: &mut [u64; 2],
+        reply: &[u64],
+    ) -> u64;
+
+    /// The new position on 0.
+    fn back(&self, tables: &Tables, memory: &mut [u64], journal: &[u64], position: &mut [u64; 2]) -> u64;
+}
