@@ -1,0 +1,68 @@
+//! `check` beside `type_check`.
+use crate::{
+    case::{hidden, Against, Case},
+    inputs,
+    program::{program, Naming},
+};
+use quil_rs::program::type_check::type_check;
+use tables::Tables;
+
+const ROWS: [u64; 3] = [8, 64, 512];
+
+pub fn all() -> Vec<Case> {
+    let mut cases = Vec::new();
+    for regions in [8, 64] {
+        for rows in ROWS {
+            let mut tables = inputs::regions(regions, 8);
+            inputs::classical(&mut tables, rows);
+            cases.push(case(format!("rows: {rows}, {regions} regions, accepted"), tables.clone(), true));
+            inputs::fail_last(&mut tables);
+            cases.push(case(format!("rows: {rows}, {regions} regions, last fails"), tables, false));
+        }
+    }
+    for rows in ROWS {
+        let (mut tables, nodes) = (inputs::regions(8, 8), 2048 / rows);
+        inputs::frames(&mut tables, rows, nodes);
+        cases.push(case(format!("frames: {rows}, each a deep tree of {nodes} nodes"), tables, true));
+    }
+    let mut tables = inputs::regions(8, 8);
+    inputs::classical(&mut tables, 512);
+    inputs::unused_first(&mut tables, 56);
+    cases.push(case("rows: 512, 64 regions, the last 8 in use".to_string(), tables, true));
+    for rows in [1, 8, 512] {
+        let mut tables = inputs::regions(8, 8);
+        inputs::shared_frames(&mut tables, rows, 2048);
+        cases.push(case(format!("frames: {rows}, all one deep tree of 2,048 nodes"), tables, true));
+    }
+    cases.push(case("every table at its limit".to_string(), inputs::limits(), true));
+    cases
+}
+
+fn case(input: String, tables: Tables, accepted: bool) -> Case {
+    let converted = program(&tables, Naming::Plain).expect("tables that quil-rs takes");
+    assert_eq!(type_check(&converted).is_ok(), accepted, "{input}");
+    assert_eq!(mugwortlatch::check(&lent(&tables)).is_ok(), accepted, "{input}");
+    Case {
+        call: "check",
+        input,
+        goal: Some(1.0),
+        against: Against::QuilRs,
+        ours: Box::new(move || {
+            let _ = hidden(&mugwortlatch::check(hidden(&lent(&tables))));
+        }),
+        theirs: Box::new(move || {
+            let _ = hidden(&type_check(hidden(&converted)));
+        }),
+    }
+}
+
+pub fn lent(tables: &Tables) -> mugwortlatch::Tables<'_> {
+    mugwortlatch::Tables {
+        regions: &tables.regions,
+        externs: &tables.externs,
+        parameters: &tables.parameters,
+        nodes: &tables.nodes,
+        arguments: &tables.arguments,
+        instructions: &tables.instructions,
+    }
+}

@@ -1,0 +1,167 @@
+//! Programs to measure on, built from their sizes.
+use tables::{Tables, INSTRUCTION, NODE, NO_RETURN, PARAMETER};
+
+const INTEGER: u64 = 1;
+const OCTET: u64 = 2;
+const REAL: u64 = 3;
+
+/// The i-th region's name; kinds go round by index.
+fn region(i: u64) -> u64 {
+    100 + i
+}
+
+fn called(i: u64) -> u64 {
+    1000 + i
+}
+
+/// That many regions (a multiple of four) of a length.
+pub fn regions(count: u64, length: u64) -> Tables {
+    Tables { regions: (0..count).flat_map(|i| [region(i), i % 4, length]).collect(), ..Tables::default() }
+}
+
+/// Puts regions that no row names before the others.
+pub fn unused_first(tables: &mut Tables, count: u64) {
+    let unused: Vec<u64> = (0..count).flat_map(|i| [10_000 + i, 0, 1]).collect();
+    tables.regions.splice(0..0, unused);
+}
+
+/// A region of that kind, another for each turn.
+fn of_kind(tables: &Tables, kind: u64, turn: u64) -> u64 {
+    let each = tables.regions.len() as u64 / 12;
+    region(4 * (turn % each) + kind)
+}
+
+/// Adds that many classical rows without error, families 0 to 7 in turn.
+pub fn classical(tables: &mut Tables, rows: u64) {
+    for i in 0..rows {
+        let name = |kind| of_kind(tables, kind, i / 8);
+        let other = |kind| of_kind(tables, kind, i / 8 + 1);
+        let row = match i % 8 {
+            0 => [0, 0, name(INTEGER), 0, 0, 0, 2, other(INTEGER), 0],
+            1 => [1, 0, name(0), 0, name(REAL), 0, 2, other(REAL), 0],
+            2 => [2, 1, name(OCTET), 0, 0, 0, 2, other(OCTET), 0],
+            3 => [3, 0, name(REAL), 0, 0, 0, 3, 0, 0],
+            4 => [4, 0, name(REAL), 0, 0, 0, 1, 1.5f64.to_bits(), 0],
+            5 => [5, 0, name(OCTET), 0, other(OCTET), 0, 3, 0, 0],
+            6 => [6, 0, name(REAL), 0, other(REAL), 0, 2, name(INTEGER), 0],
+            _ => [7, 0, name(OCTET), 0, name(INTEGER), 0, 2, other(OCTET), 0],
+        };
+        tables.instructions.extend(row);
+    }
+}
+
+/// Makes the last row ADD to a BIT, an operand error.
+pub fn fail_last(tables: &mut Tables) {
+    let row = [0, 0, region(0), 0, 0, 0, 0, 1, 0];
+    let last = tables.instructions.len() - INSTRUCTION;
+    tables.instructions[last..].copy_from_slice(&row);
+}
+
+/// Adds a tree as deep as its nodes allow, all but the last on the right, and gives its first node. `nodes` is odd
+/// for infix nodes alone; else one prefix node stands on top.
+fn deep_tree(tables: &mut Tables, nodes: u64) -> u64 {
+    let first = (tables.nodes.len() / NODE) as u64;
+    if nodes % 2 == 0 {
+        tables.nodes.extend([5, 0, 0]);
+    }
+    for turn in 0..(nodes - 1) / 2 {
+        let leaf = [0, of_kind(tables, REAL, turn), 0];
+        tables.nodes.extend([2, 0, 0]);
+        tables.nodes.extend(leaf);
+    }
+    tables.nodes.extend([3, 1.5f64.to_bits(), 0]);
+    first
+}
+
+fn frame(operator: u64, first: u64, nodes: u64) -> [u64; INSTRUCTION] {
+    [8, operator % 5, first, nodes, 0, 0, 3, 0, 0]
+}
+
+/// Adds frame rows, each with a deep tree of its own.
+pub fn frames(tables: &mut Tables, rows: u64, nodes: u64) {
+    for i in 0..rows {
+        let first = deep_tree(tables, nodes);
+        tables.instructions.extend(frame(i, first, nodes));
+    }
+}
+
+/// Adds frame rows that share one deep tree.
+pub fn shared_frames(tables: &mut Tables, rows: u64, nodes: u64) {
+    let first = deep_tree(tables, nodes);
+    (0..rows).for_each(|i| tables.instructions.extend(frame(i, first, nodes)));
+}
+
+/// Adds externs without return, of so many parameters each: a mutable INTEGER, a REAL, a REAL vector of the regions'
+/// length, a mutable OCTET vector of any length, in turn.
+pub fn externs(tables: &mut Tables, count: u64, parameters: u64) {
+    let length = tables.regions[2];
+    for e in 0..count {
+        tables.externs.extend([called(e), NO_RETURN, e * parameters, parameters]);
+        for p in 0..parameters {
+            let row = match p % 4 {
+                0 => [5000 + p, 1, 0, INTEGER, 0],
+                1 => [5000 + p, 0, 0, REAL, 0],
+                2 => [5000 + p, 0, 1, REAL, length],
+                _ => [5000 + p, 1, 2, OCTET, 0],
+            };
+            tables.parameters.extend(row);
+        }
+    }
+}
+
+/// Makes every parameter mutable, so that a CALL writes all that it reads.
+pub fn all_mutable(tables: &mut Tables) {
+    tables.parameters.chunks_mut(PARAMETER).for_each(|p| p[1] = 1);
+}
+
+/// The names of a CALL's arguments.
+#[derive(Clone, Copy, PartialEq)]
+pub enum Names {
+    /// Of regions, so that every argument fits; immediates among them.
+    Fitting,
+    /// Another for each argument, none declared, descending.
+    Undeclared,
+}
+
+/// Adds CALLs of the externs in turn; gives the first's row.
+pub fn calls(tables: &mut Tables, rows: u64, names: Names) -> u64 {
+    let chosen = (tables.instructions.len() / INSTRUCTION) as u64;
+    let externs = tables.externs.len() as u64 / 4;
+    for i in 0..rows {
+        let parameters = tables.externs[3];
+        let first = tables.arguments.len() as u64 / 3;
+        for p in 0..parameters {
+            let name = |kind| match names {
+                Names::Fitting => of_kind(tables, kind, i + p / 4),
+                Names::Undeclared => 9000 - p,
+            };
+            let argument = match p % 4 {
+                0 => [1, name(INTEGER), 0],
+                1 if names == Names::Fitting => [2, 1.5f64.to_bits(), 0],
+                1 => [1, name(REAL), 0],
+                2 => [0, name(REAL), 0],
+                _ => [0, name(OCTET), 0],
+            };
+            tables.arguments.extend(argument);
+        }
+        tables.instructions.extend([9, 0, called(i % externs), first, parameters, 0, 3, 0, 0]);
+    }
+    chosen
+}
+
+/// Every table at its limit, and every cell: 128 CALLs of 8 arguments, 256 classical rows, 128 frames of 16 nodes.
+pub fn limits() -> Tables {
+    let mut tables = regions(64, 64);
+    externs(&mut tables, 32, 8);
+    calls(&mut tables, 128, Names::Fitting);
+    classical(&mut tables, 256);
+    frames(&mut tables, 128, 16);
+    tables
+}
+
+/// The same, but each of the 512 rows is a frame over all 2,048 nodes: the rows' ranges overlap as much as they can.
+pub fn overlapping() -> Tables {
+    let mut tables = Tables { instructions: Vec::new(), nodes: Vec::new(), ..limits() };
+    shared_frames(&mut tables, 512, 2048);
+    tables
+}

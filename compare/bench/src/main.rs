@@ -1,0 +1,51 @@
+//! The library's calls measured beside quil-rs's, and key presses beside one read of the tables: docs/PERFORMANCE.md.
+//! Each input is counted in instructions by callgrind, in a second run of this program, and timed here.
+mod call_cases;
+mod case;
+mod check_cases;
+mod count;
+#[path = "../../oracle/src/expression.rs"]
+#[allow(dead_code)]
+mod expression;
+mod inputs;
+mod key_cases;
+#[path = "../../oracle/src/names.rs"]
+#[allow(dead_code)]
+mod names;
+#[path = "../../oracle/src/program.rs"]
+#[allow(dead_code)]
+mod program;
+mod report;
+mod signatures;
+mod time;
+
+use case::Case;
+
+/// quil-rs goes down a tree by calling itself.
+const STACK: usize = 1 << 28;
+
+/// Each call once, for callgrind; with a text after it, those alone whose call and input have the text.
+const ONCE: &str = "--once";
+
+fn cases() -> Vec<Case> {
+    [check_cases::all(), call_cases::all(), key_cases::all()].into_iter().flatten().collect()
+}
+
+fn main() {
+    let once = std::env::args().nth(1).as_deref() == Some(ONCE);
+    let run = move || {
+        if once {
+            let text = std::env::args().nth(2).unwrap_or_default();
+            cases().iter_mut().filter(|case| case.label().contains(&text)).for_each(count::once);
+        } else {
+            let mut cases = cases();
+            let counts = count::all(&cases, ONCE);
+            let times = cases.iter_mut().map(time::least).collect::<Vec<_>>();
+            report::print(&cases, &counts, &times);
+        }
+    };
+    let thread = std::thread::Builder::new().stack_size(STACK).spawn(run);
+    if thread.expect("a thread").join().is_err() {
+        std::process::exit(2);
+    }
+}
