@@ -1,0 +1,45 @@
+-- `desk::reply::ask_reply` is safe and ends. Assumes nothing.
+use borrow.Author.Needs.{needs}
+use Rattle.desk.proofs.reply.ask_reply.Statement.{statement}
+use Rattle.desk.proofs.reply.ask_reply.Tie as tie
+
+abbrev Inv-loop : tie.InvT-loop
+Inv-loop rows count reply₀ view row₀ turns₀ reply row turns = Unit {0}
+
+abbrev μ-loop : tie.MeasureT-loop
+μ-loop rows count reply₀ view row₀ turns₀ reply row turns = turns
+
+loop-holds : tie.Need-loop-holds Inv-loop μ-loop
+loop-holds c = search needs
+
+ask-row-requires : tie.Need-ask-row-requires Inv-loop μ-loop
+ask-row-requires c κs = search needs
+
+sub-turns : tie.Need-sub-turns Inv-loop μ-loop
+sub-turns c = search needs
+
+loop-less : tie.Need-loop-less Inv-loop μ-loop
+loop-less c = search needs
+
+loop-again : tie.Need-loop-again Inv-loop μ-loop
+loop-again c = search needs
+
+mul-result : tie.Need-mul-result Inv-loop μ-loop
+mul-result c = search needs
+
+returns : tie.Need-returns Inv-loop μ-loop
+returns c = search needs
+
+pub ask-reply-spec : {M : Type 1} → statement M
+ask-reply-spec =
+    tie.close
+    (tie.spec
+    Inv-loop
+    μ-loop
+    loop-holds
+    ask-row-requires
+    sub-turns
+    loop-less
+    loop-again
+    mul-result
+    returns)

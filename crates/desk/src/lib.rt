@@ -1,0 +1,8 @@
+// What the console in a terminal works on: its state, the public calls on it, the screen, lines from the keyboard, replies, and more about a row.
+pub mod about;
+pub mod calls;
+pub mod explain;
+pub mod input;
+pub mod reply;
+pub mod screen;
+pub mod state;

@@ -1,0 +1,57 @@
+// Reads standard input by lines. A word 0x.. is written as a REAL's text; any other word is read as a short decimal, and its word and text are written.
+use libc::STDIN_FILENO;
+use libc::STDOUT_FILENO;
+use real_text::decimal::READ;
+use real_text::decimal::read_decimal;
+use real_text::text::text_of;
+use script::line::line_at;
+use script::line::part;
+use script::line::word_at;
+use script::number::read_number;
+
+fn write_real(word: u64) {
+    let text = text_of(word);
+    let bytes = text.bytes;
+    io::write_all(STDOUT_FILENO, part(&bytes, 0, text.length));
+    io::write_all(STDOUT_FILENO, b"\n");
+}
+
+fn write_short(word: &[u8]) {
+    let reading = read_decimal(word);
+    if reading.kind != READ {
+        io::write_all(STDOUT_FILENO, b"no short decimal\n");
+        return;
+    }
+    io::print_hex(STDOUT_FILENO, reading.word, 16);
+    io::write_all(STDOUT_FILENO, b" ");
+    write_real(reading.word);
+}
+
+fn write_word(word: &[u8]) {
+    let reading = read_number(word);
+    if (reading.kind == READ) & (word.len() == 18) {
+        write_real(reading.word);
+        return;
+    }
+    write_short(word);
+}
+
+fn each_line(text: &[u8]) {
+    let mut at = 0;
+    let mut turns = text.len();
+    while turns > 0 {
+        let line = line_at(text, at);
+        let word = word_at(text, line.start, line.end);
+        if word.start < word.end {
+            write_word(part(text, word.start, word.end));
+        }
+        at = line.next;
+        turns -= 1;
+    }
+}
+
+fn main() {
+    let mut text = [0; 262144];
+    let count = io::read_full(STDIN_FILENO, &mut text);
+    each_line(&text[0..count]);
+}

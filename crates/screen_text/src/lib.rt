@@ -1,0 +1,11 @@
+// What the console writes: values, rows, regions, changes, errors and refusals, as text for any terminal or pipe.
+pub mod changes;
+pub mod errors;
+pub mod page;
+pub mod print;
+pub mod program;
+pub mod quil;
+pub mod refusal;
+pub mod regions;
+pub mod resolved;
+pub mod view;

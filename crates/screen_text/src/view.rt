@@ -1,0 +1,28 @@
+// How things are shown: the names that have a text, REAL words as bits, all rows and cells, colours, keys echoed.
+pub struct View {
+    pub names: usize,
+    pub bits: bool,
+    pub all: bool,
+    pub colour: bool,
+    pub echo: bool,
+}
+
+impl View {
+    pub fn with_bits(self) -> View {
+        let mut next = self;
+        next.bits = !self.bits;
+        next
+    }
+
+    pub fn with_all(self) -> View {
+        let mut next = self;
+        next.all = !self.all;
+        next
+    }
+
+    pub fn with_names(self, names: usize) -> View {
+        let mut next = self;
+        next.names = names;
+        next
+    }
+}

@@ -1,0 +1,4 @@
+// The console in a terminal.
+fn main() {
+    terminal::run::run();
+}

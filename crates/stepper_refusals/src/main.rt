@@ -1,0 +1,4 @@
+// The page of refusals: the same program as `stepper`, asked for the page.
+fn main() {
+    terminal::run::run();
+}

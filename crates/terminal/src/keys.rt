@@ -1,0 +1,232 @@
+// The keys, one a line.
+use crate::load::load;
+use crate::steps::back_key;
+use crate::steps::check_key;
+use crate::steps::forward_key;
+use crate::steps::reset;
+use desk::about::about;
+use desk::input::LINE;
+use desk::input::ask;
+use desk::input::typed_line;
+use desk::screen::screen;
+use desk::state::Desk;
+use desk::state::JOURNAL_WORDS;
+use desk::state::MEMORY_WORDS;
+use desk::state::NO_FILE;
+use desk::state::TEXT_BYTES;
+use screen_text::page::page;
+use screen_text::print::text;
+use script::line::byte_at;
+use script::line::part;
+use script::line::word_at;
+use tables_text::file::TABLE_WORDS;
+use tables_text::names::NAME_WORDS;
+
+pub fn help() {
+    text(b"Keys, one a line:\n");
+    text(b"  (empty)  forward: the next row; at a CALL the reply is asked for\n");
+    text(b"  b        back: takes the last step back\n");
+    text(b"  r        reset: opens the program again\n");
+    text(
+        b"  a        about the current row: a CALL's arguments and access sets, a frame's references\n",
+    );
+    text(b"  c        type check of the whole program\n");
+    text(b"  x        REAL words as bits, on and off\n");
+    text(b"  m        more: all rows and all cells, on and off\n");
+    text(b"  o FILE   opens another file\n");
+    text(b"  p        the page of refusals: what is turned down, why, and who can mend it\n");
+    text(b"  h        this help\n");
+    text(b"  q        quit\n");
+    text(b"A reply's row is: argument, offset, value. An empty line ends the reply.\n");
+}
+
+// The screen of the desk's file.
+pub fn show(
+    buffer: &[u8; TEXT_BYTES],
+    names: &[u64; NAME_WORDS],
+    tables: &[u64; TABLE_WORDS],
+    memory: &[u64; MEMORY_WORDS],
+    desk: Desk,
+) {
+    if desk.state != NO_FILE {
+        screen(part(buffer, 0, desk.text), names, tables, memory, desk);
+    }
+}
+
+// Reads a file and opens its program.
+pub fn open_file(
+    path: &[u8],
+    buffer: &mut [u8; TEXT_BYTES],
+    names: &mut [u64; NAME_WORDS],
+    tables: &mut [u64; TABLE_WORDS],
+    memory: &mut [u64; MEMORY_WORDS],
+    journal: &mut [u64; JOURNAL_WORDS],
+    desk: Desk,
+) -> Desk {
+    let loaded = load(path, buffer, names, tables, desk);
+    if loaded.state == NO_FILE {
+        return loaded;
+    }
+    reset(
+        part(buffer, 0, loaded.text),
+        names,
+        tables,
+        loaded,
+        memory,
+        journal,
+    )
+}
+
+// Keys that only show something.
+fn showing_key(
+    key: u8,
+    source: &[u8],
+    names: &[u64; NAME_WORDS],
+    tables: &[u64; TABLE_WORDS],
+    desk: Desk,
+) -> Desk {
+    match key {
+        b'a' => about(source, names, tables, desk),
+        b'c' => check_key(tables, desk),
+        b'p' => page(),
+        b'h' => help(),
+        _ => text(b"no such key: h shows the keys\n"),
+    }
+    desk
+}
+
+// Keys that change how things are shown, or end.
+fn view_key(
+    key: u8,
+    source: &[u8],
+    names: &[u64; NAME_WORDS],
+    tables: &[u64; TABLE_WORDS],
+    desk: Desk,
+) -> Desk {
+    let view = desk.view;
+    match key {
+        b'x' => desk.viewed(view.with_bits()),
+        b'm' => desk.viewed(view.with_all()),
+        b'q' => desk.stopped(),
+        _ => showing_key(key, source, names, tables, desk),
+    }
+}
+
+// A key that stands alone on its line; 0 is the empty line.
+fn press(
+    key: u8,
+    source: &[u8],
+    names: &mut [u64; NAME_WORDS],
+    tables: &[u64; TABLE_WORDS],
+    memory: &mut [u64; MEMORY_WORDS],
+    journal: &mut [u64; JOURNAL_WORDS],
+    desk: Desk,
+) -> Desk {
+    match key {
+        0 => forward_key(source, names, tables, desk, memory, journal),
+        b'b' => back_key(source, names, tables, desk, memory, journal),
+        b'r' => reset(source, names, tables, desk, memory, journal),
+        _ => view_key(key, source, names, tables, desk),
+    }
+}
+
+// Whether the screen is shown after a key.
+fn shows(key: u8) -> bool {
+    match key {
+        0 => true,
+        b'b' => true,
+        b'r' => true,
+        b'x' => true,
+        b'm' => true,
+        b'o' => true,
+        _ => false,
+    }
+}
+
+// The line's first byte where its first word is one byte, 0 where there is no word, else a byte that is no key.
+fn key_of(line: &[u8]) -> u8 {
+    let word = word_at(line, 0, line.len());
+    if word.start >= word.end {
+        return 0;
+    }
+    if word.end == std::num::wrapping_add_usize(word.start, 1) {
+        return byte_at(line, word.start);
+    }
+    b'?'
+}
+
+fn act(
+    line: &[u8],
+    buffer: &mut [u8; TEXT_BYTES],
+    names: &mut [u64; NAME_WORDS],
+    tables: &mut [u64; TABLE_WORDS],
+    memory: &mut [u64; MEMORY_WORDS],
+    journal: &mut [u64; JOURNAL_WORDS],
+    desk: Desk,
+) -> Desk {
+    let key = key_of(line);
+    if key == b'o' {
+        let first = word_at(line, 0, line.len());
+        let path = word_at(line, first.end, line.len());
+        return open_file(
+            part(line, path.start, path.end),
+            buffer,
+            names,
+            tables,
+            memory,
+            journal,
+            desk,
+        );
+    }
+    press(
+        key,
+        part(buffer, 0, desk.text),
+        names,
+        tables,
+        memory,
+        journal,
+        desk,
+    )
+}
+
+// Asks for a key and acts on it. The end of the input quits.
+fn turn(
+    buffer: &mut [u8; TEXT_BYTES],
+    names: &mut [u64; NAME_WORDS],
+    tables: &mut [u64; TABLE_WORDS],
+    memory: &mut [u64; MEMORY_WORDS],
+    journal: &mut [u64; JOURNAL_WORDS],
+    desk: Desk,
+) -> Desk {
+    let mut line = [0; LINE];
+    let typed = ask(b"key: ", &mut line, desk.view);
+    if typed.ended {
+        return desk.stopped();
+    }
+    let keys = typed_line(&line, typed);
+    let next = act(keys, buffer, names, tables, memory, journal, desk);
+    if shows(key_of(keys)) {
+        show(buffer, names, tables, memory, next);
+    }
+    next
+}
+
+// Nothing says that the keys end, so the loop counts its turns down, from a number that no session uses up.
+pub fn turns(
+    buffer: &mut [u8; TEXT_BYTES],
+    names: &mut [u64; NAME_WORDS],
+    tables: &mut [u64; TABLE_WORDS],
+    memory: &mut [u64; MEMORY_WORDS],
+    journal: &mut [u64; JOURNAL_WORDS],
+    desk: Desk,
+) {
+    let mut now = desk;
+    let mut left: u64 = 0xFFFF_FFFF_FFFF_FFFF;
+    while left > 0 {
+        if !now.going {
+            break;
+        }
+        now = turn(buffer, names, tables, memory, journal, now);
+        left -= 1;
+    }
+}

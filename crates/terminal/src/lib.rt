@@ -1,0 +1,5 @@
+// The console in a terminal: files, keys, one a line, and what each does. It only shows; the work is the public calls'.
+pub mod keys;
+pub mod load;
+pub mod run;
+pub mod steps;

@@ -1,0 +1,126 @@
+// A file read into the tables.
+use desk::calls::table;
+use desk::state::Desk;
+use desk::state::NO_FILE;
+use desk::state::OPENED;
+use desk::state::TEXT_BYTES;
+use screen_text::print::number;
+use screen_text::print::style;
+use screen_text::print::text;
+use script::line::least;
+use script::line::part;
+use tables::rows::REGION_WIDTH;
+use tables_text::file::Reader;
+use tables_text::file::TABLE_WORDS;
+use tables_text::file::UNSET;
+use tables_text::file::read_file;
+use tables_text::names::NAME_WORDS;
+use tables_text::names::word_of;
+use tables_text::row::COUNT;
+use tables_text::row::NO_HEADING;
+use tables_text::row::NONE;
+use tables_text::row::TOO_MANY_NAMES;
+use tables_text::row::TOO_MANY_ROWS;
+use tables_text::word::TOO_LARGE;
+use tables_text::word::TOO_MANY_DIGITS;
+
+const MOST_CELLS: usize = 4096;
+
+// The cells that the regions ask for, at most the limit.
+fn cell_count(regions: &[u64]) -> usize {
+    let mut total = 0;
+    let mut at = 0;
+    let mut left = regions.len() / REGION_WIDTH;
+    while left > 0 {
+        let length = word_of(regions, std::num::wrapping_add_usize(at, 2));
+        total = least(
+            std::num::wrapping_add_usize(total, least(length as usize, MOST_CELLS)),
+            MOST_CELLS,
+        );
+        at = std::num::wrapping_add_usize(at, REGION_WIDTH);
+        left -= 1;
+    }
+    total
+}
+
+fn trouble(reader: Reader) {
+    let cause = reader.trouble;
+    text(b"line ");
+    number(reader.line as u64);
+    match cause {
+        COUNT => text(b": too many or too few words\n"),
+        NO_HEADING => text(b": a row before any table's heading\n"),
+        TOO_MANY_ROWS => text(b": the table has no room for more rows\n"),
+        TOO_MANY_NAMES => text(b": more than 1024 names\n"),
+        TOO_LARGE => text(b": a number does not fit 64 bits\n"),
+        TOO_MANY_DIGITS => text(b": a REAL has at most 15 digits here; write its bits as 0x..\n"),
+        _ => text(b": no number, no name and no word of this table\n"),
+    }
+}
+
+// Memory and journal as asked for; the memory exactly enough for the cells where nothing is asked.
+fn lent(desk: Desk, reader: Reader, cells: usize) -> Desk {
+    let mut next = desk;
+    let lengths = reader.lengths;
+    let view = desk.view;
+    let named = view.with_names(reader.names);
+    next.lengths = lengths;
+    next.memory = if reader.memory == UNSET {
+        cells % 8192 * 2
+    } else {
+        reader.memory
+    };
+    next.journal = reader.entries % 4096 * 3;
+    next.view = named;
+    next.state = OPENED;
+    next
+}
+
+fn read_tables(
+    source: &[u8],
+    names: &mut [u64; NAME_WORDS],
+    tables: &mut [u64; TABLE_WORDS],
+    desk: Desk,
+) -> Desk {
+    let reader = read_file(source, names, tables);
+    let lengths = reader.lengths;
+    if reader.trouble != NONE {
+        let view = desk.view;
+        style(view, b"31");
+        trouble(reader);
+        style(view, b"0");
+        return desk.stated(NO_FILE);
+    }
+    let cells = cell_count(table(tables, 0, lengths));
+    lent(desk, reader, cells)
+}
+
+// Reads the file's bytes; how many, or the buffer's length where there are more than it holds.
+fn read_bytes(path: &[u8], buffer: &mut [u8; TEXT_BYTES]) -> usize {
+    let file = os::open_read(path);
+    if file < 0 {
+        return 0;
+    }
+    let count = io::read_full(file, buffer);
+    libc::close(file);
+    count
+}
+
+// Reads a file into text and tables. With no file to read the desk has none.
+pub fn load(
+    path: &[u8],
+    buffer: &mut [u8; TEXT_BYTES],
+    names: &mut [u64; NAME_WORDS],
+    tables: &mut [u64; TABLE_WORDS],
+    desk: Desk,
+) -> Desk {
+    let count = least(read_bytes(path, buffer), TEXT_BYTES);
+    if (count == 0) | (count == TEXT_BYTES) {
+        text(path);
+        text(b": there is no such file, or it is empty or longer than 65,535 bytes\n");
+        return desk.stated(NO_FILE);
+    }
+    let mut next = desk;
+    next.text = count;
+    read_tables(part(buffer, 0, count), names, tables, next)
+}

@@ -1,0 +1,297 @@
+// What the keys do to the session: a file read, open, forward, back.
+use console::check::CheckAnswer;
+use desk::calls::check_tables;
+use desk::calls::front;
+use desk::calls::open_tables;
+use desk::calls::step_back;
+use desk::calls::step_forward;
+use desk::calls::table;
+use desk::explain::RESOLVE_WORDS;
+use desk::explain::explain_open;
+use desk::explain::family_at;
+use desk::explain::show_call;
+use desk::reply::REPLY_WORDS;
+use desk::reply::ask_reply;
+use desk::state::Desk;
+use desk::state::JOURNAL_WORDS;
+use desk::state::MEMORY_WORDS;
+use desk::state::NO_FILE;
+use desk::state::OPENED;
+use journal::position::Position;
+use screen_text::changes::changes;
+use screen_text::changes::copy;
+use screen_text::errors::type_error;
+use screen_text::print::style;
+use screen_text::print::text;
+use screen_text::refusal::refused;
+use screen_text::view::View;
+use script::line::least;
+use session::answer::OpenAnswer;
+use session::answer::StepAnswer;
+use tables::instruction::CALL;
+use tables::refusal::TYPE_ERROR;
+use tables_text::file::TABLE_WORDS;
+use tables_text::names::NAME_WORDS;
+use tables_text::plant::plant;
+
+// What open answered, in words; the state that it leaves.
+fn opened(
+    source: &[u8],
+    names: &[u64; NAME_WORDS],
+    tables: &[u64; TABLE_WORDS],
+    desk: Desk,
+    answer: OpenAnswer,
+) -> u64 {
+    match answer {
+        OpenAnswer::Opened(_) => OPENED,
+        OpenAnswer::Refused(number) => {
+            refused(number, desk.view);
+            explain_open(source, names, tables, desk, number);
+            number
+        }
+        OpenAnswer::Error(error) => {
+            refused(TYPE_ERROR, desk.view);
+            type_error(error);
+            TYPE_ERROR
+        }
+    }
+}
+
+fn open_lent(
+    source: &[u8],
+    names: &[u64; NAME_WORDS],
+    tables: &[u64; TABLE_WORDS],
+    desk: Desk,
+    memory: &mut [u64],
+    journal: &[u64],
+) -> Desk {
+    let words = least(desk.memory, memory.len());
+    let entries = least(desk.journal, journal.len());
+    let lengths = desk.lengths;
+    let answer = open_tables(tables, lengths, &mut memory[0..words], &journal[0..entries]);
+    let state = opened(source, names, tables, desk, answer);
+    let first = Position { done: 0, used: 0 };
+    desk.stated(state).placed(first)
+}
+
+// What the file has of a foreign writer.
+fn plant_lent(
+    source: &[u8],
+    names: &mut [u64; NAME_WORDS],
+    desk: Desk,
+    memory: &mut [u64],
+    journal: &mut [u64],
+) -> Desk {
+    let words = least(desk.memory, memory.len());
+    let entries = least(desk.journal, journal.len());
+    let view = desk.view;
+    let position = plant(
+        source,
+        names,
+        view.names,
+        &mut memory[0..words],
+        &mut journal[0..entries],
+        desk.position,
+    );
+    desk.placed(position)
+}
+
+// Opens the program that was read.
+pub fn reset(
+    source: &[u8],
+    names: &mut [u64; NAME_WORDS],
+    tables: &[u64; TABLE_WORDS],
+    desk: Desk,
+    memory: &mut [u64; MEMORY_WORDS],
+    journal: &mut [u64; JOURNAL_WORDS],
+) -> Desk {
+    if desk.state == NO_FILE {
+        text(b"no file is open\n");
+        return desk;
+    }
+    let next = open_lent(source, names, tables, desk, memory, journal);
+    if next.state != OPENED {
+        return next;
+    }
+    plant_lent(source, names, next, memory, journal)
+}
+
+// The position that a step leaves, and its refusal in words.
+fn stepped(answer: StepAnswer, view: View) -> Position {
+    match answer {
+        StepAnswer::Moved(position) => position,
+        StepAnswer::Refused(number, position) => {
+            refused(number, view);
+            position
+        }
+    }
+}
+
+// What a step answered and changed, in words; the desk after it.
+fn finish(
+    source: &[u8],
+    names: &[u64; NAME_WORDS],
+    regions: &[u64],
+    desk: Desk,
+    before: &[u64],
+    memory: &[u64],
+    answer: StepAnswer,
+) -> Desk {
+    let view = desk.view;
+    let old = desk.position;
+    let position = stepped(answer, view);
+    let any = changes(source, names, view, regions, before, memory);
+    if !any & (position.done != old.done) {
+        text(b"no cell changed\n");
+    }
+    desk.placed(position)
+}
+
+fn forward_lent(
+    source: &[u8],
+    names: &[u64; NAME_WORDS],
+    tables: &[u64; TABLE_WORDS],
+    desk: Desk,
+    memory: &mut [u64],
+    journal: &mut [u64],
+    reply: &[u64; REPLY_WORDS],
+    length: usize,
+) -> Desk {
+    let lengths = desk.lengths;
+    let mut before = [0; MEMORY_WORDS];
+    copy(memory, &mut before);
+    let answer = step_forward(
+        tables,
+        lengths,
+        memory,
+        journal,
+        desk.position,
+        front(reply, length),
+    );
+    finish(
+        source,
+        names,
+        table(tables, 0, lengths),
+        desk,
+        &before,
+        memory,
+        answer,
+    )
+}
+
+fn back_lent(
+    source: &[u8],
+    names: &[u64; NAME_WORDS],
+    tables: &[u64; TABLE_WORDS],
+    desk: Desk,
+    memory: &mut [u64],
+    journal: &[u64],
+) -> Desk {
+    let lengths = desk.lengths;
+    let mut before = [0; MEMORY_WORDS];
+    copy(memory, &mut before);
+    let answer = step_back(tables, lengths, memory, journal, desk.position);
+    finish(
+        source,
+        names,
+        table(tables, 0, lengths),
+        desk,
+        &before,
+        memory,
+        answer,
+    )
+}
+
+// Keys that step need an opened program.
+fn is_open(desk: Desk) -> bool {
+    if desk.state == OPENED {
+        return true;
+    }
+    let view = desk.view;
+    style(view, b"31");
+    text(b"nothing is opened: o FILE opens a file, r opens this one again\n");
+    style(view, b"0");
+    false
+}
+
+// The reply where the current row is a CALL; its length in words.
+fn reply_for(
+    source: &[u8],
+    names: &[u64; NAME_WORDS],
+    tables: &[u64; TABLE_WORDS],
+    desk: Desk,
+    reply: &mut [u64; REPLY_WORDS],
+) -> usize {
+    let lengths = desk.lengths;
+    let position = desk.position;
+    if family_at(table(tables, 5, lengths), position.done) != CALL {
+        return 0;
+    }
+    let mut rows = [0; RESOLVE_WORDS];
+    let count = show_call(source, names, tables, desk, position.done, &mut rows);
+    ask_reply(&rows, count, reply, desk.view)
+}
+
+pub fn forward_key(
+    source: &[u8],
+    names: &[u64; NAME_WORDS],
+    tables: &[u64; TABLE_WORDS],
+    desk: Desk,
+    memory: &mut [u64],
+    journal: &mut [u64],
+) -> Desk {
+    let words = least(desk.memory, memory.len());
+    let entries = least(desk.journal, journal.len());
+    if !is_open(desk) {
+        return desk;
+    }
+    let mut reply = [0; REPLY_WORDS];
+    let length = reply_for(source, names, tables, desk, &mut reply);
+    forward_lent(
+        source,
+        names,
+        tables,
+        desk,
+        &mut memory[0..words],
+        &mut journal[0..entries],
+        &reply,
+        length,
+    )
+}
+
+pub fn back_key(
+    source: &[u8],
+    names: &[u64; NAME_WORDS],
+    tables: &[u64; TABLE_WORDS],
+    desk: Desk,
+    memory: &mut [u64],
+    journal: &[u64],
+) -> Desk {
+    let words = least(desk.memory, memory.len());
+    let entries = least(desk.journal, journal.len());
+    if !is_open(desk) {
+        return desk;
+    }
+    back_lent(
+        source,
+        names,
+        tables,
+        desk,
+        &mut memory[0..words],
+        &journal[0..entries],
+    )
+}
+
+// The verdict of the type check, in words.
+pub fn check_key(tables: &[u64; TABLE_WORDS], desk: Desk) {
+    let lengths = desk.lengths;
+    let answer = check_tables(tables, lengths);
+    match answer {
+        CheckAnswer::Accepted => text(b"accepted by the type check\n"),
+        CheckAnswer::Refused(number) => refused(number, desk.view),
+        CheckAnswer::Error(error) => {
+            refused(TYPE_ERROR, desk.view);
+            type_error(error)
+        }
+    }
+}
