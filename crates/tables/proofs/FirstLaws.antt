@@ -1,7 +1,7 @@
 -- Laws of `first` and `every`: a loop's start, turn, hit and end, and what an answer says of each row. Assumes nothing.
 use Prim.Native.Nat.{ℕ, zero, suc, _+_, _-_, _<_, _≤_}
-use mathlib.Core.Bool.{Bool, true, false, not, cond}
-use mathlib.Core.Path.{_≡_, refl, sym, ap, _∙_}
+use mathlib.Core.Bool.{Bool, true, false, not, cond, _||_}
+use mathlib.Core.Path.{_≡_, refl, sym, ap, subst, _∙_}
 use native.Mathlib.Numerals.{add-one}
 use native.Mathlib.Omega.{arith}
 use native.Mathlib.Decide.{ℕ-discrete}
@@ -23,6 +23,27 @@ module _ {A : Type 0} (test : ℕ → Bool) (value : ℕ → A) (other : A) (n i
   pub first-end : n ≤ i → first test value other i (n - i) ≡ other
   unfolding first
   first-end h = let e : n - i ≡ 0 = omega arith in rw e
+
+-- neither of two tests holds
+pub neither : (a b : Bool) → (a || b) ≡ false → (a ≡ false) × (b ≡ false)
+neither false b e = (refl, e)
+neither true b e = let z : _≡_ {A = ℕ} 0 1 = cc in absurd (omega arith)
+
+-- four rows that `test` does not hold of are passed at once
+pub first-four : {A : Type 0} (test : ℕ → Bool) (value : ℕ → A) (other : A) (n i : ℕ) → i + 3 < n
+    → (test i || (test (i + 1) || (test (i + 2) || test (i + 3)))) ≡ false
+    → first test value other i (n - i) ≡ first test value other (i + 4) (n - (i + 4))
+first-four test value other n i h e =
+    let (a, e₁) = neither (test i) _ e in
+    let (b, e₂) = neither (test (i + 1)) _ e₁ in
+    let (c, d) = neither (test (i + 2)) _ e₂ in
+    let p : i + 1 + 1 ≡ i + 2 = omega arith in
+    let q : i + 2 + 1 ≡ i + 3 = omega arith in
+    let r : i + 3 + 1 ≡ i + 4 = omega arith in
+    let s₁ : first test value other (i + 1) (n - (i + 1)) ≡ first test value other (i + 2) (n - (i + 2)) = subst (λ k. first test value other (i + 1) (n - (i + 1)) ≡ first test value other k (n - k)) p (first-miss test value other n (i + 1) (omega arith) b) in
+    let s₂ : first test value other (i + 2) (n - (i + 2)) ≡ first test value other (i + 3) (n - (i + 3)) = subst (λ k. first test value other (i + 2) (n - (i + 2)) ≡ first test value other k (n - k)) q (first-miss test value other n (i + 2) (omega arith) c) in
+    let s₃ : first test value other (i + 3) (n - (i + 3)) ≡ first test value other (i + 4) (n - (i + 4)) = subst (λ k. first test value other (i + 3) (n - (i + 3)) ≡ first test value other k (n - k)) r (first-miss test value other n (i + 3) (omega arith) d) in
+    first-miss test value other n i (omega arith) a ∙ (s₁ ∙ (s₂ ∙ s₃))
 
 pub first-all : {A : Type 0} (test : ℕ → Bool) (value : ℕ → A) (other : A) (n : ℕ) → first test value other 0 (n - 0) ≡ first test value other 0 n
 first-all test value other n = let e : n - 0 ≡ n = omega arith in rw e

@@ -5,7 +5,7 @@ use mathlib.Core.Path.{_≡_, refl, sym}
 use native.Mathlib.Omega.{arith}
 use lib.Dec.{leb}
 use borrow.Author.Tests.{leb-true, leb-false, le-leb, lt-leb}
-use native.Mathlib.Nat.{lt-of-le-of-lt, le-mul-of-pos-right, lt-of-lt-of-le, mul-lt-mul-of-pos-right, div-mul-le-self}
+use native.Mathlib.Nat.{lt-of-le-of-lt, le-mul-of-pos-right, lt-of-lt-of-le, mul-lt-mul-of-pos-right, mul-le-mul-right, div-mul-le-self}
 
 module _ {i rows width n : ℕ} where
   -- row i starts before the end of the rows
@@ -15,6 +15,13 @@ module _ {i rows width n : ℕ} where
   -- and its number is below the number of words
   pub row-below : 0 < width → rows * width ≤ n → i < rows → i < n
   row-below w fit h = lt-of-le-of-lt (le-mul-of-pos-right i w) (row-start w fit h)
+
+-- a row before one that starts within the table starts within it
+pub sooner-start : {i j width n : ℕ} → 0 < width → j * width < n → i ≤ j → i * width < n
+sooner-start {width = width} w h l = lt-of-le-of-lt (mul-le-mul-right width l) h
+
+pub start-below : {j width n : ℕ} → 0 < width → j * width < n → j < n
+start-below {j} w h = lt-of-le-of-lt (le-mul-of-pos-right j w) h
 
 pub rows-fit : (n width : ℕ) → n / width * width ≤ n
 rows-fit = div-mul-le-self

@@ -4,5 +4,6 @@ pub mod Cases
 pub mod FirstLaws
 pub mod TreeLaws
 pub mod LookupLaws
+pub mod MarksLaws
 pub mod CellsLaws
 pub mod Loaded

@@ -5,7 +5,7 @@ use mathlib.Core.List.{List}
 use mathlib.Core.Path.{_≡_, refl, sym, ap, _∙_}
 use native.Mathlib.Omega.{arith}
 use native.Mathlib.Decide.{ℕ-discrete}
-use borrow.Author.Tests.{eqb-true, eqb-false}
+use borrow.Author.Tests.{ne-eqb, eqb-true, eqb-false}
 use lib.Dec.{eqb}
 use Rattle.tables.specs.First.{first}
 use Rattle.tables.specs.Rows.{rowsOf}
@@ -63,3 +63,14 @@ module _ (width : ℕ) (xs : List ℕ) (name : ℕ) where
   pub among-none : (n : ℕ) → lookupAmong width xs name n ≡ Nothing → (k : ℕ) → k < n → nameAt width xs k ≡ name → ⊥
   unfolding lookupAmong
   among-none n e k h = from-none 0 n e k (omega arith) (omega arith)
+
+  -- where no row below n has the name, none is found
+  from-miss : (i n : ℕ) → ((k : ℕ) → i ≤ k → k < i + n → nameAt width xs k ≡ name → ⊥) → lookupFrom width xs name i n ≡ Nothing
+  unfolding first
+  from-miss i zero none = refl
+  from-miss i (suc n) none =
+      rw (ne-eqb (nameAt width xs i) name (none i (omega arith) (omega arith))) (from-miss (i + 1) n (λ k l h. none k (omega arith) (omega arith)))
+
+  pub among-miss : (n : ℕ) → ((k : ℕ) → k < n → nameAt width xs k ≡ name → ⊥) → lookupAmong width xs name n ≡ Nothing
+  unfolding lookupAmong
+  among-miss n none = from-miss 0 n (λ k l h. none k (omega arith))

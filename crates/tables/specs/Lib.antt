@@ -4,6 +4,7 @@ pub mod First
 pub mod Tables
 pub mod Rows
 pub mod Lookup
+pub mod Marks
 pub mod Tree
 pub mod Shape
 pub mod Allowed

@@ -1,16 +1,17 @@
 use Prim.Native.Nat.{ℕ, _≤_, _<_, _-_, _*_}
 use mathlib.Core.Path.{_≡_, sym, _∙_}
 use native.Mathlib.Omega.{arith}
-use borrow.Author.Tests.{eq-eqb, ne-eqb}
 use lib.ListN.{length}
-use Rattle.tables.proofs.FirstLaws.{first-hit, first-miss, first-end, first-all}
 use Rattle.tables.specs.Lookup.{lookupFrom, lookupAmong}
-use Rattle.tables.proofs.Index.{row-start}
+use Rattle.tables.proofs.FirstLaws.{first-hit, first-miss, first-end}
+use Rattle.tables.proofs.Index.{row-start, row-below}
 use borrow.Author.Needs.{needs}
 use Rattle.tables.proofs.lookup.lookup_among.Statement.{statement}
 use Rattle.tables.proofs.lookup.lookup_among.Tie as tie
 use Rattle.tables.proofs.lookup.lookup_among.Reads as reads
 use Rattle.tables.proofs.lookup.lookup_among.Lts as lts
+use Rattle.tables.proofs.lookup.has_name.Reads as has-name-reads
+use Rattle.tables.proofs.lookup.pass_fours.Reads as pass-fours-reads
 
 abbrev Inv-loop : tie.InvT-loop
 Inv-loop table width rows name i₀ i = (0 < width) × (rows * width ≤ length table) × (lookupFrom width table name i (rows - i) ≡ lookupAmong width table name rows)
@@ -18,30 +19,26 @@ Inv-loop table width rows name i₀ i = (0 < width) × (rows * width ≤ length 
 abbrev μ-loop : tie.MeasureT-loop
 μ-loop table width rows name i₀ i = rows - i
 
+pass-fours-requires : tie.Need-pass-fours-requires Inv-loop μ-loop
+pass-fours-requires c κs = search needs
+
 loop-holds : tie.Need-loop-holds Inv-loop μ-loop
-unfolding lookupAmong
-loop-holds c = (omega arith, omega arith, first-all _ _ _ _)
+loop-holds c = (search needs, search needs, c .pass-fours .ensures .1)
 
-mul-if1 : tie.Need-mul-if1 Inv-loop μ-loop
-mul-if1 c = record { fits = let h = row-start (c .before .loop .inv .0) (c .before .loop .inv .1) (c .loop-test .taken) in omega arith }
-
-mul-if1-2 : tie.Need-mul-if1-2 Inv-loop μ-loop
-mul-if1-2 c = record { fits = let h = row-start (c .before .loop .inv .0) (c .before .loop .inv .1) (c .loop-test .taken) in omega arith }
-
-shared-slice-read-if1 : tie.Need-shared-slice-read-if1 Inv-loop μ-loop
-shared-slice-read-if1 c = row-start (c .before .before .loop .inv .0) (c .before .before .loop .inv .1) (c .before .loop-test .taken)
+has-name-requires : tie.Need-has-name-requires Inv-loop μ-loop
+has-name-requires c κs = (search needs, row-start (c .before .loop .inv .0) (c .before .loop .inv .1) (c .loop-test .taken))
 
 returns : tie.Need-returns Inv-loop μ-loop
-returns c = sym (first-hit _ _ _ _ _ (search needs) (eq-eqb _ _ (c .if1 .taken))) ∙ c .before .before .before .loop .inv .2
+returns c = sym (first-hit _ _ _ _ _ (search needs) (sym (c .before .has-name .ensures) ∙ c .if1 .taken)) ∙ c .before .before .before .loop .inv .2
 
 add-i : tie.Need-add-i Inv-loop μ-loop
-add-i c = search needs
+add-i c = record { fits = let h = row-below (c .before .before .before .loop .inv .0) (c .before .before .before .loop .inv .1) (c .before .before .loop-test .taken) in omega arith }
 
 loop-less : tie.Need-loop-less Inv-loop μ-loop
 loop-less c = search needs
 
 loop-again : tie.Need-loop-again Inv-loop μ-loop
-loop-again c = (search needs, search needs, sym (first-miss _ _ _ _ _ (search needs) (ne-eqb _ _ (c .if1 .left))) ∙ c .before .before .before .loop .inv .2)
+loop-again c = (search needs, search needs, sym (first-miss _ _ _ _ _ (search needs) (sym (c .before .has-name .ensures) ∙ c .if1 .left)) ∙ c .before .before .before .loop .inv .2)
 
 returns-2 : tie.Need-returns-2 Inv-loop μ-loop
 returns-2 c = sym (first-end _ _ _ _ _ (search needs)) ∙ c .before .loop .inv .2
@@ -52,10 +49,9 @@ lookup-among-spec =
     (tie.spec
     Inv-loop
     μ-loop
+    pass-fours-requires
     loop-holds
-    mul-if1
-    mul-if1-2
-    shared-slice-read-if1
+    has-name-requires
     returns
     add-i
     loop-less
