@@ -3,6 +3,7 @@ pub mod Index
 pub mod Cases
 pub mod FirstLaws
 pub mod TreeLaws
+pub mod EndsLaws
 pub mod LookupLaws
 pub mod MarksLaws
 pub mod CellsLaws

@@ -6,6 +6,7 @@ pub mod Rows
 pub mod Lookup
 pub mod Marks
 pub mod Tree
+pub mod Ends
 pub mod Shape
 pub mod Allowed
 pub mod Instruction

@@ -7,4 +7,5 @@ pub mod lookup;
 pub mod refusal;
 pub mod rows;
 pub mod shape;
+pub mod ends;
 pub mod tree;

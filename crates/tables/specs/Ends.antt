@@ -1,0 +1,20 @@
+-- How a range is known to be one tree without going through its nodes: by where the tree that starts at its first node ends.
+use Prim.Native.Nat.{ℕ, _+_, _<_, _≤_}
+use mathlib.Core.List.{List}
+use mathlib.Core.Path.{_≡_}
+use lib.Dec.{eqb}
+use lib.ListN.{getD, length}
+use Rattle.tables.specs.Rows.{nodeRows}
+use Rattle.tables.specs.Tree.{treesFrom}
+
+-- e is the row after the tree that starts at row i; 0 where it does not end in the table
+pub record TreeEnd (nodes : List ℕ) (i e : ℕ) : Type 0 where
+  pub within : e ≤ nodeRows nodes
+  pub after : (e ≡ 0 → ⊥) → i < e
+  pub exact : (n : ℕ) → 0 < n → i + n ≤ nodeRows nodes → treesFrom nodes 1 i n ≡ eqb e (i + n)
+
+-- the ends of the trees of row i and the rows after it, in a list for the most nodes that a table has and one more
+pub record EndsFrom (nodes ends : List ℕ) (i : ℕ) : Type 0 where
+  pub count : length ends ≡ 2049
+  pub rows : nodeRows nodes ≤ 2048
+  pub each : (k : ℕ) → i ≤ k → k ≤ nodeRows nodes → TreeEnd nodes k (getD ends k 0)
