@@ -69,8 +69,10 @@ module _ (nodes : List ℕ) where
     where
       rest : ℕ
       rest = trees - 1 + arityOf (nodeTag nodes i)
+
       more : Part rest (i + 1) n → Part trees i (suc n)
       more p = record { rows = suc (p .rows); some = omega arith; within = let l = p .within in omega (arith, l); whole = next-tree trees i (p .rows) h ∙ p .whole }
+
       at : Dec (rest ≡ 0) → ((rest ≡ 0 → ⊥) → treesFrom nodes (rest + others) (i + 1) n ≡ true → Part rest (i + 1) n) → Part trees i (suc n)
       at (yes z) ih = record { rows = 1; some = omega arith; within = omega arith; whole = next-tree trees i 0 h ∙ (no-rows rest (i + 1) ∙ eq-eqb rest 0 z) }
       at (no ne) ih =
@@ -123,6 +125,7 @@ module _ (nodes : List ℕ) where
             let s = p .some in
             let q : 0 ≡ i + 1 + p .rows = eqb-true 0 (i + 1 + p .rows) (sym (t .exact (p .rows) s (omega (arith, w))) ∙ p .whole) in
             omega (arith, q)
+
         at : (n : ℕ) → i + 1 + n ≤ nodeRows nodes → (b : Bool) → treesFrom nodes 2 (i + 1) n ≡ b → treesFrom nodes 2 (i + 1) n ≡ eqb 0 (i + 1 + n)
         at n k true e = absurd (part n k (first-trees 1 1 (i + 1) n one-not-none e))
         at n k false e = e ∙ sym (ne-eqb 0 (i + 1 + n) (λ q. omega (arith, q)))
@@ -134,14 +137,17 @@ module _ (nodes : List ℕ) where
       where
         m : ℕ
         m = f - (i + 1)
+
         first : i + 1 < f → treesFrom nodes 1 (i + 1) m ≡ true
         first a =
             let w = t .within in
             let q : i + 1 + m ≡ f = omega arith in
             t .exact m (omega arith) (omega (arith, w)) ∙ eq-eqb f (i + 1 + m) (sym q)
+
         second : (n : ℕ) → 0 < f → f + n ≤ nodeRows nodes → treesFrom nodes 1 f n ≡ eqb e (f + n)
         second zero p k = no-rows 1 f ∙ sym (not-end f e (f + 0) u (omega arith) (omega arith))
         second (suc n) p k = u .exact (suc n) (omega arith) k
+
         at : (n : ℕ) → i + 1 + n ≤ nodeRows nodes → i + 1 < f → (b : Bool) → leb f (i + 1 + n) ≡ b → (s : Bool) → treesFrom nodes 2 (i + 1) n ≡ s
             → treesFrom nodes 2 (i + 1) n ≡ eqb e (i + 1 + n)
         at n k a true c s d =

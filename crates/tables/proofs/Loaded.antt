@@ -94,33 +94,38 @@ six a b c d e f h =
     let (t, u) = both e _ h₄ in
     record { of-regions = p; of-externs = q; of-parameters = r; of-nodes = s; of-arguments = t; of-instructions = u }
 
-module _ {t : Tables} (l : Loaded t) where
+module _ (t : Tables) (w : wholeTables t ≡ true) where
   wholes : Six (wholeRows R.regionWidth 64 (t .regions)) (wholeRows R.externWidth 32 (t .externs)) (wholeRows R.parameterWidth 256 (t .parameters)) (wholeRows R.nodeWidth 2048 (t .nodes)) (wholeRows R.argumentWidth 1024 (t .arguments)) (wholeRows R.instructionWidth 512 (t .instructions))
   unfolding wholeTables
-  wholes = six (wholeRows R.regionWidth 64 (t .regions)) (wholeRows R.externWidth 32 (t .externs)) (wholeRows R.parameterWidth 256 (t .parameters)) (wholeRows R.nodeWidth 2048 (t .nodes)) (wholeRows R.argumentWidth 1024 (t .arguments)) (wholeRows R.instructionWidth 512 (t .instructions)) (l .whole)
+  wholes = six (wholeRows R.regionWidth 64 (t .regions)) (wholeRows R.externWidth 32 (t .externs)) (wholeRows R.parameterWidth 256 (t .parameters)) (wholeRows R.nodeWidth 2048 (t .nodes)) (wholeRows R.argumentWidth 1024 (t .arguments)) (wholeRows R.instructionWidth 512 (t .instructions)) w
 
+  -- what the word rules need of it: room for where each node's tree ends
+  pub whole-nodes : R.nodeRows (t .nodes) ≤ 2048
+  whole-nodes = few R.nodeWidth 2048 (t .nodes) (wholes .of-nodes)
+
+module _ {t : Tables} (l : Loaded t) where
   alloweds : Six (A.regionsAllowed (t .regions)) (A.externsAllowed (R.parameterRows (t .parameters)) (t .externs)) (A.parametersAllowed (t .parameters)) (A.nodesAllowed (t .nodes)) (A.argumentsAllowed (t .arguments)) (I.instructionsAllowed (t .nodes) (R.argumentRows (t .arguments)) (t .instructions))
   unfolding allowedTables
   alloweds = six (A.regionsAllowed (t .regions)) (A.externsAllowed (R.parameterRows (t .parameters)) (t .externs)) (A.parametersAllowed (t .parameters)) (A.nodesAllowed (t .nodes)) (A.argumentsAllowed (t .arguments)) (I.instructionsAllowed (t .nodes) (R.argumentRows (t .arguments)) (t .instructions)) (l .allowed)
 
   -- ---- limits
   pub few-regions : R.regionRows (t .regions) ≤ 64
-  few-regions = few R.regionWidth 64 (t .regions) (wholes .of-regions)
+  few-regions = few R.regionWidth 64 (t .regions) (wholes t (l .whole) .of-regions)
 
   pub few-externs : R.externRows (t .externs) ≤ 32
-  few-externs = few R.externWidth 32 (t .externs) (wholes .of-externs)
+  few-externs = few R.externWidth 32 (t .externs) (wholes t (l .whole) .of-externs)
 
   pub few-parameters : R.parameterRows (t .parameters) ≤ 256
-  few-parameters = few R.parameterWidth 256 (t .parameters) (wholes .of-parameters)
+  few-parameters = few R.parameterWidth 256 (t .parameters) (wholes t (l .whole) .of-parameters)
 
   pub few-nodes : R.nodeRows (t .nodes) ≤ 2048
-  few-nodes = few R.nodeWidth 2048 (t .nodes) (wholes .of-nodes)
+  few-nodes = whole-nodes t (l .whole)
 
   pub few-arguments : R.argumentRows (t .arguments) ≤ 1024
-  few-arguments = few R.argumentWidth 1024 (t .arguments) (wholes .of-arguments)
+  few-arguments = few R.argumentWidth 1024 (t .arguments) (wholes t (l .whole) .of-arguments)
 
   pub few-instructions : R.instructionRows (t .instructions) ≤ 512
-  few-instructions = few R.instructionWidth 512 (t .instructions) (wholes .of-instructions)
+  few-instructions = few R.instructionWidth 512 (t .instructions) (wholes t (l .whole) .of-instructions)
 
   -- ---- rows
   pub region-allowed : (r : ℕ) → r < R.regionRows (t .regions) → A.regionAllowed (R.regionAt (t .regions) r) ≡ true

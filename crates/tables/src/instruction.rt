@@ -1,8 +1,13 @@
 // Refusal 2, of the instructions: the words that each family allows.
 ghost use mathlib.Core.Path.{_≡_};
+ghost use Prim.Native.Nat.{_≤_};
+ghost use Rattle.tables.specs.Rows.{nodeRows};
+ghost use Rattle.tables.specs.Ends.{EndsFrom};
 ghost use Rattle.tables.specs.Instruction.{operatorsOf, operandsAllowed, instructionAllowed, instructionsAllowed, formAllowed, sourceAllowed};
+use crate::ends::tree_ends;
 use crate::rows::INSTRUCTION_WIDTH;
 use crate::rows::Instruction;
+use crate::rows::NODE_LIMIT;
 
 // Families by number.
 pub const ARITHMETIC: u64 = 0;
@@ -76,8 +81,9 @@ fn source_allowed(x: Instruction) -> bool
     }
 }
 
-// `arguments` is the number of argument rows.
-fn operands_allowed(nodes: &[u64], arguments: usize, x: Instruction) -> bool
+// `ends` has where each node's tree ends; `arguments` is the number of argument rows.
+fn operands_allowed(nodes: &[u64], ends: &[u16], arguments: usize, x: Instruction) -> bool
+    requires { ⌜ EndsFrom (now nodes) (now ends) 0 ⌝ }
     ensures { λ r. ⌜ r ≡ operandsAllowed (now (nodes .entry)) arguments x ⌝ }
 {
     let family = x.family;
@@ -91,7 +97,7 @@ fn operands_allowed(nodes: &[u64], arguments: usize, x: Instruction) -> bool
         5 => true,
         6 => x.second_index == 0,
         7 => x.first_index == 0,
-        8 => second_unused & crate::tree::one_tree(nodes, x.first_name, x.first_index),
+        8 => second_unused & crate::ends::ends_with(nodes, ends, x.first_name, x.first_index),
         9 => {
             (x.second_index == 0)
                 & crate::tree::range_inside(x.first_index, x.second_name, arguments)
@@ -101,25 +107,36 @@ fn operands_allowed(nodes: &[u64], arguments: usize, x: Instruction) -> bool
     }
 }
 
-fn instruction_allowed(nodes: &[u64], arguments: usize, x: Instruction) -> bool
+fn instruction_allowed(nodes: &[u64], ends: &[u16], arguments: usize, x: Instruction) -> bool
+    requires { ⌜ EndsFrom (now nodes) (now ends) 0 ⌝ }
     ensures { λ r. ⌜ r ≡ instructionAllowed (now (nodes .entry)) arguments x ⌝ }
 {
     (x.operator < operator_count(x.family))
         & (form_allowed(x.family, x.source_form)
-            & (source_allowed(x) & operands_allowed(nodes, arguments, x)))
+            & (source_allowed(x) & operands_allowed(nodes, ends, arguments, x)))
 }
 
-pub fn instructions_allowed(instructions: &[u64], nodes: &[u64], arguments: usize) -> bool
+fn rows_allowed(instructions: &[u64], nodes: &[u64], ends: &[u16], arguments: usize) -> bool
+    requires { ⌜ EndsFrom (now nodes) (now ends) 0 ⌝ }
     ensures { λ r. ⌜ r ≡ instructionsAllowed (now (nodes .entry)) arguments (now (instructions .entry)) ⌝ }
 {
     let rows = instructions.len() / INSTRUCTION_WIDTH;
     let mut i = 0;
     while i < rows {
         let x = crate::rows::instruction_at(instructions, i);
-        if !instruction_allowed(nodes, arguments, x) {
+        if !instruction_allowed(nodes, ends, arguments, x) {
             return false;
         }
         i += 1;
     }
     true
+}
+
+pub fn instructions_allowed(instructions: &[u64], nodes: &[u64], arguments: usize) -> bool
+    requires { ⌜ nodeRows (now nodes) ≤ 2048 ⌝ }
+    ensures { λ r. ⌜ r ≡ instructionsAllowed (now (nodes .entry)) arguments (now (instructions .entry)) ⌝ }
+{
+    let mut ends = [0; NODE_LIMIT + 1];
+    tree_ends(nodes, &mut ends);
+    rows_allowed(instructions, nodes, &ends, arguments)
 }

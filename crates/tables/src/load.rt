@@ -1,5 +1,7 @@
 // Refusals 1, 2 and 3 over all tables, in that order.
 ghost use mathlib.Core.Path.{_≡_};
+ghost use Prim.Native.Nat.{_≤_};
+ghost use Rattle.tables.specs.Rows.{nodeRows};
 ghost use Rattle.tables.specs.Tables.{tablesOf};
 ghost use Rattle.tables.specs.Load.{loadOutcome, allowedTables, distinctNames, chosenRow, loadOf, loadRowOf, loadNodesOf};
 use crate::allowed::arguments_allowed;
@@ -29,7 +31,7 @@ pub enum Load {
     Refused(u64),
 }
 
-// Every word rule of every table.
+// Every word rule of every table, of tables within their limits.
 pub fn allowed_tables(
     regions: &[u64],
     externs: &[u64],
@@ -38,6 +40,7 @@ pub fn allowed_tables(
     arguments: &[u64],
     instructions: &[u64],
 ) -> bool
+    requires { ⌜ nodeRows (now nodes) ≤ 2048 ⌝ }
     ensures { λ r. ⌜ r ≡ allowedTables (tablesOf (now (regions .entry)) (now (externs .entry)) (now (parameters .entry)) (now (nodes .entry)) (now (arguments .entry)) (now (instructions .entry))) ⌝ }
 {
     regions_allowed(regions)

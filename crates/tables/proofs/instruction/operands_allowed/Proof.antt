@@ -7,11 +7,11 @@ use Rattle.tables.proofs.instruction.operands_allowed.Statement.{statem
 use Rattle.tables.proofs.instruction.operands_allowed.Tie as tie
 use Rattle.tables.proofs.instruction.operands_allowed.Reads as reads
 use Rattle.tables.proofs.instruction.operands_allowed.Lts as lts
-use Rattle.tables.proofs.tree.one_tree.Reads as one-tree-reads
+use Rattle.tables.proofs.ends.ends_with.Reads as ends-with-reads
 use Rattle.tables.proofs.tree.range_inside.Reads as range-inside-reads
 
-one-tree-requires : tie.Need-one-tree-requires
-one-tree-requires c κs = search needs
+ends-with-requires : tie.Need-ends-with-requires
+ends-with-requires c κs = search needs
 
 range-inside-requires : tie.Need-range-inside-requires
 range-inside-requires c κs = search needs
@@ -50,7 +50,7 @@ returns-8 c = rw (c .before .match .keys8)
 
 returns-9 : tie.Need-returns-9
 unfolding operandsAllowed
-returns-9 c = rw (c .before .match .keys9, ← c .one-tree .ensures)
+returns-9 c = rw (c .before .match .keys9, ← c .ends-with .ensures)
 
 returns-10 : tie.Need-returns-10
 unfolding operandsAllowed
@@ -62,13 +62,13 @@ returns-11 c = rw (c .before .before .match .keys11)
 
 returns-12 : tie.Need-returns-12
 unfolding operandsAllowed
-returns-12 c = rest-arm (operandWords (c .before .before .before .before .args .nodes .now) (c .before .before .before .before .args .arguments) (c .before .before .before .before .args .x)) false (c .before .before .before .before .args .x .family) (c .match .rest)
+returns-12 c = rest-arm (operandWords (c .before .before .before .before .before .args .nodes .now) (c .before .before .before .before .before .args .arguments) (c .before .before .before .before .before .args .x)) false (c .before .before .before .before .before .args .x .family) (c .match .rest)
 
 pub operands-allowed-spec : {M : Type 1} → statement M
 operands-allowed-spec =
     tie.close
     (tie.spec
-    one-tree-requires
+    ends-with-requires
     range-inside-requires
     returns
     returns-2

@@ -6,18 +6,18 @@ use Rattle.tables.specs.Rows.{instructionRows, instructionAt}
 use Rattle.tables.specs.Instruction.{instructionAllowed, instructionsAllowed}
 use Rattle.tables.proofs.FirstLaws.{every-start, every-stop, every-turn, every-end}
 use borrow.Author.Needs.{needs}
-use Rattle.tables.proofs.instruction.instructions_allowed.Statement.{statement}
-use Rattle.tables.proofs.instruction.instructions_allowed.Tie as tie
-use Rattle.tables.proofs.instruction.instructions_allowed.Reads as reads
-use Rattle.tables.proofs.instruction.instructions_allowed.Lts as lts
+use Rattle.tables.proofs.instruction.rows_allowed.Statement.{statement}
+use Rattle.tables.proofs.instruction.rows_allowed.Tie as tie
+use Rattle.tables.proofs.instruction.rows_allowed.Reads as reads
+use Rattle.tables.proofs.instruction.rows_allowed.Lts as lts
 use Rattle.tables.proofs.instruction.instruction_allowed.Reads as instruction-allowed-reads
 use Rattle.tables.proofs.rows.instruction_at.Reads as instruction-at-reads
 
 abbrev Inv-loop : tie.InvT-loop
-Inv-loop instructions nodes arguments rows i₀ i = (rows ≡ instructionRows instructions) × (everyFrom (λ k. instructionAllowed nodes arguments (instructionAt instructions k)) i (rows - i) ≡ instructionsAllowed nodes arguments instructions)
+Inv-loop instructions nodes ends arguments rows i₀ i = (rows ≡ instructionRows instructions) × (everyFrom (λ k. instructionAllowed nodes arguments (instructionAt instructions k)) i (rows - i) ≡ instructionsAllowed nodes arguments instructions)
 
 abbrev μ-loop : tie.MeasureT-loop
-μ-loop instructions nodes arguments rows i₀ i = rows - i
+μ-loop instructions nodes ends arguments rows i₀ i = rows - i
 
 loop-holds : tie.Need-loop-holds Inv-loop μ-loop
 unfolding instructionsAllowed
@@ -31,7 +31,7 @@ instruction-allowed-requires c κs = search needs
 
 returns : tie.Need-returns Inv-loop μ-loop
 unfolding instructionsAllowed
-returns c = every-stop _ _ _ (c .before .before .before .before .loop .inv .1) (search needs) (ap (instructionAllowed (c .before .before .before .before .before .before .before .args .nodes .now) (c .before .before .before .before .before .before .before .args .arguments)) (sym (c .before .before .instruction-at .ensures)) ∙ (sym (c .before .instruction-allowed .ensures) ∙ not-true _ (c .if1 .taken)))
+returns c = every-stop _ _ _ (c .before .before .before .before .loop .inv .1) (search needs) (ap (instructionAllowed (c .before .before .before .before .before .before .before .before .args .nodes .now) (c .before .before .before .before .before .before .before .before .args .arguments)) (sym (c .before .before .instruction-at .ensures)) ∙ (sym (c .before .instruction-allowed .ensures) ∙ not-true _ (c .if1 .taken)))
 
 add-i : tie.Need-add-i Inv-loop μ-loop
 add-i c = search needs
@@ -41,14 +41,14 @@ loop-less c = search needs
 
 loop-again : tie.Need-loop-again Inv-loop μ-loop
 unfolding instructionsAllowed
-loop-again c = (c .before .before .before .before .loop .inv .0, every-turn _ _ _ (c .before .before .before .before .loop .inv .1) (search needs) (ap (instructionAllowed (c .before .before .before .before .before .before .before .args .nodes .now) (c .before .before .before .before .before .before .before .args .arguments)) (sym (c .before .before .instruction-at .ensures)) ∙ (sym (c .before .instruction-allowed .ensures) ∙ not-false _ (c .if1 .left))))
+loop-again c = (c .before .before .before .before .loop .inv .0, every-turn _ _ _ (c .before .before .before .before .loop .inv .1) (search needs) (ap (instructionAllowed (c .before .before .before .before .before .before .before .before .args .nodes .now) (c .before .before .before .before .before .before .before .before .args .arguments)) (sym (c .before .before .instruction-at .ensures)) ∙ (sym (c .before .instruction-allowed .ensures) ∙ not-false _ (c .if1 .left))))
 
 returns-2 : tie.Need-returns-2 Inv-loop μ-loop
 unfolding instructionsAllowed
 returns-2 c = every-end _ _ _ (c .before .loop .inv .1) (search needs)
 
-pub instructions-allowed-spec : {M : Type 1} → statement M
-instructions-allowed-spec =
+pub rows-allowed-spec : {M : Type 1} → statement M
+rows-allowed-spec =
     tie.close
     (tie.spec
     Inv-loop
