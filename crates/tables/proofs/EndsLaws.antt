@@ -189,20 +189,20 @@ module _ (nodes : List ℕ) where
 
 module _ (nodes ends : List ℕ) where
   -- past the last node the list holds no end
-  pub ends-none : length ends ≡ 2049 → nodeRows nodes ≤ 2048 → EndsFrom nodes (set ends (nodeRows nodes) 0) (nodeRows nodes)
-  ends-none c r = record { count = length-set ends _ 0 ∙ c; rows = r; each = each }
+  pub ends-none : nodeRows nodes < length ends → nodeRows nodes ≤ 2048 → EndsFrom nodes (set ends (nodeRows nodes) 0) (nodeRows nodes)
+  ends-none c r = record { room = rw (length-set ends (nodeRows nodes) 0) c; rows = r; each = each }
     where
       each : (k : ℕ) → nodeRows nodes ≤ k → k ≤ nodeRows nodes → TreeEnd nodes k (getD (set ends (nodeRows nodes) 0) k 0)
       each k l h =
           let q : k ≡ nodeRows nodes = omega arith in
-          rw (q, getD-set-same ends (nodeRows nodes) 0 0 (omega (arith, c, r))) (end-none nodes)
+          rw (q, getD-set-same ends (nodeRows nodes) 0 0 c) (end-none nodes)
 
   -- a node's end is put before those of the nodes after it
   pub ends-more : (i e : ℕ) → i < nodeRows nodes → EndsFrom nodes ends (i + 1) → TreeEnd nodes i e → EndsFrom nodes (set ends i e) i
-  ends-more i e l s t = record { count = length-set ends i e ∙ s .count; rows = s .rows; each = λ k a b. at k a b (ℕ-discrete k i) }
+  ends-more i e l s t = record { room = rw (length-set ends i e) (s .room); rows = s .rows; each = λ k a b. at k a b (ℕ-discrete k i) }
     where
       at : (k : ℕ) → i ≤ k → k ≤ nodeRows nodes → Dec (k ≡ i) → TreeEnd nodes k (getD (set ends i e) k 0)
-      at k a b (yes q) = rw (q, getD-set-same ends i e 0 (let c = s .count in let r = s .rows in omega (arith, c, r))) t
+      at k a b (yes q) = rw (q, getD-set-same ends i e 0 (omega (arith, l, s .room))) t
       at k a b (no ne) = rw (getD-set-other ends i k e 0 ne) (s .each k (omega arith) b)
 
   -- a range is one tree where its first node's tree ends with it

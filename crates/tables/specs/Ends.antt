@@ -13,8 +13,8 @@ pub record TreeEnd (nodes : List ℕ) (i e : ℕ) : Type 0 where
   pub after : (e ≡ 0 → ⊥) → i < e
   pub exact : (n : ℕ) → 0 < n → i + n ≤ nodeRows nodes → treesFrom nodes 1 i n ≡ eqb e (i + n)
 
--- the ends of the trees of row i and the rows after it, in a list for the most nodes that a table has and one more
+-- the ends of the trees of row i and the rows after it, in a list that has room for one more
 pub record EndsFrom (nodes ends : List ℕ) (i : ℕ) : Type 0 where
-  pub count : length ends ≡ 2049
+  pub room : nodeRows nodes < length ends
   pub rows : nodeRows nodes ≤ 2048
   pub each : (k : ℕ) → i ≤ k → k ≤ nodeRows nodes → TreeEnd nodes k (getD ends k 0)

@@ -5,7 +5,6 @@ ghost use lib.ListN.{length};
 ghost use Rattle.tables.specs.Rows.{nodeRows, nodeTag};
 ghost use Rattle.tables.specs.Tree.{arityOf, oneTree};
 ghost use Rattle.tables.specs.Ends.{TreeEnd, EndsFrom};
-use crate::rows::NODE_LIMIT;
 use crate::rows::NODE_WIDTH;
 use crate::tree::arity;
 use crate::tree::range_inside;
@@ -27,7 +26,7 @@ fn tree_end(nodes: &[u64], ends: &[u16], i: usize, next: usize) -> usize
 
 // From the last node to the first.
 pub fn tree_ends(nodes: &[u64], ends: &mut [u16])
-    requires { ⌜ (nodeRows (now nodes) ≤ 2048) × (length (now ends) ≡ 2049) ⌝ }
+    requires { ⌜ (nodeRows (now nodes) ≤ 2048) × (nodeRows (now nodes) < length (now ends)) ⌝ }
     ensures { λ _. ⌜ EndsFrom (now (nodes .entry)) (now (ends .exit)) 0 ⌝ }
 {
     let mut i = nodes.len() / NODE_WIDTH;

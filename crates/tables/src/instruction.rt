@@ -1,6 +1,6 @@
 // Refusal 2, of the instructions: the words that each family allows.
 ghost use mathlib.Core.Path.{_≡_};
-ghost use Prim.Native.Nat.{_≤_};
+ghost use Prim.Native.Nat.{_<_, _≤_};
 ghost use Rattle.tables.specs.Rows.{nodeRows};
 ghost use Rattle.tables.specs.Ends.{EndsFrom};
 ghost use Rattle.tables.specs.Instruction.{operatorsOf, operandsAllowed, instructionAllowed, instructionsAllowed, formAllowed, sourceAllowed};
@@ -8,6 +8,7 @@ use crate::ends::tree_ends;
 use crate::rows::INSTRUCTION_WIDTH;
 use crate::rows::Instruction;
 use crate::rows::NODE_LIMIT;
+use crate::rows::NODE_WIDTH;
 
 // Families by number.
 pub const ARITHMETIC: u64 = 0;
@@ -31,6 +32,9 @@ pub const FRAME: u64 = 8;
 pub const CALL: u64 = 9;
 
 pub const OTHER: u64 = 10;
+
+// More than that many nodes take the room for all.
+const FEW_NODES: usize = 64;
 
 // How many operators a family has; 1 where the word is unused.
 fn operator_count(family: u64) -> u64
@@ -132,11 +136,31 @@ fn rows_allowed(instructions: &[u64], nodes: &[u64], ends: &[u16], arguments: us
     true
 }
 
-pub fn instructions_allowed(instructions: &[u64], nodes: &[u64], arguments: usize) -> bool
+// With room for few nodes, which takes little to clear.
+fn allowed_with_few_nodes(instructions: &[u64], nodes: &[u64], arguments: usize) -> bool
+    requires { ⌜ nodeRows (now nodes) < 64 ⌝ }
+    ensures { λ r. ⌜ r ≡ instructionsAllowed (now (nodes .entry)) arguments (now (instructions .entry)) ⌝ }
+{
+    let mut ends = [0; FEW_NODES];
+    tree_ends(nodes, &mut ends);
+    rows_allowed(instructions, nodes, &ends, arguments)
+}
+
+fn allowed_with_many_nodes(instructions: &[u64], nodes: &[u64], arguments: usize) -> bool
     requires { ⌜ nodeRows (now nodes) ≤ 2048 ⌝ }
     ensures { λ r. ⌜ r ≡ instructionsAllowed (now (nodes .entry)) arguments (now (instructions .entry)) ⌝ }
 {
     let mut ends = [0; NODE_LIMIT + 1];
     tree_ends(nodes, &mut ends);
     rows_allowed(instructions, nodes, &ends, arguments)
+}
+
+pub fn instructions_allowed(instructions: &[u64], nodes: &[u64], arguments: usize) -> bool
+    requires { ⌜ nodeRows (now nodes) ≤ 2048 ⌝ }
+    ensures { λ r. ⌜ r ≡ instructionsAllowed (now (nodes .entry)) arguments (now (instructions .entry)) ⌝ }
+{
+    if nodes.len() / NODE_WIDTH < FEW_NODES {
+        return allowed_with_few_nodes(instructions, nodes, arguments);
+    }
+    allowed_with_many_nodes(instructions, nodes, arguments)
 }

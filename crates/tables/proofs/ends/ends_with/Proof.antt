@@ -28,7 +28,7 @@ mul-result : tie.Need-mul-result
 mul-result c = record { fits = let h = inside-le _ _ _ (sym (c .before .before .range-inside .ensures) ∙ not-false _ (c .before .if1 .left)) in omega (arith, h, c .before .before .before .before .before .pre .rows) }
 
 shared-slice-read-result : tie.Need-shared-slice-read-result
-shared-slice-read-result c = let h = inside-le _ _ _ (sym (c .before .before .before .range-inside .ensures) ∙ not-false _ (c .before .before .if1 .left)) in omega (arith, h, c .before .before .before .before .before .before .pre .rows, c .before .before .before .before .before .before .pre .count)
+shared-slice-read-result c = let h = inside-le _ _ _ (sym (c .before .before .before .range-inside .ensures) ∙ not-false _ (c .before .before .if1 .left)) in omega (arith, h, c .before .before .before .before .before .before .pre .room)
 
 cast-result : tie.Need-cast-result
 cast-result c = record { fits = let h = inside-le _ _ _ (sym (c .before .before .before .range-inside .ensures) ∙ not-false _ (c .before .before .if1 .left)) in let b = end-below _ _ 0 (c .before .before .before .before .before .before .args .first) (c .before .before .before .before .before .before .pre) (omega arith) (omega (arith, h)) in omega (arith, b) }

@@ -34,7 +34,7 @@ mul-result : tie.Need-mul-result
 mul-result c = search needs
 
 shared-slice-read-result : tie.Need-shared-slice-read-result
-shared-slice-read-result c = omega (arith, c .before .before .before .before .before .before .before .pre .1 .within, c .before .before .before .before .before .before .before .pre .2 .rows, c .before .before .before .before .before .before .before .pre .2 .count)
+shared-slice-read-result c = omega (arith, c .before .before .before .before .before .before .before .pre .1 .within, c .before .before .before .before .before .before .before .pre .2 .room)
 
 cast-result : tie.Need-cast-result
 cast-result c = record { fits = omega (arith, end-below _ _ _ (c .before .before .before .before .before .before .before .args .next) (c .before .before .before .before .before .before .before .pre .2) (first-after _ _ (c .before .before .before .before .before .before .before .pre .0) _ _ (c .before .before .before .arity .ensures) (c .before .before .if1 .left) (c .before .before .before .before .before .before .before .pre .1) (c .before .if2 .left)) (c .before .before .before .before .before .before .before .pre .1 .within)) }
