@@ -1,17 +1,19 @@
 -- Laws of insertion into a lent list: one name, then the names of all arguments. Assumes nothing.
 use Prim.Native.Nat.{ℕ, zero, suc, _+_, _-_, _<_, _≤_}
 use mathlib.Core.Path.{_≡_, refl, sym, ap, _∙_}
-use mathlib.Core.Bool.{Bool, true, false, cond}
+use mathlib.Core.Bool.{Bool, true, false, cond, _&&_}
 use mathlib.Core.List.{List, [], _∷_, _++_, append-nil, append-assoc}
 use native.Mathlib.Numerals.{add-one}
 use native.Mathlib.Omega.{arith}
-use borrow.Author.Tests.{eq-eqb, ne-eqb}
-use lib.Dec.{eqb}
-use lib.ListN.{length, getD, set, take, drop, length-drop, take-append-drop}
-use lib.Seq.{sets, sets-eq, take-add, drop-cons, drop-set-lt, length-take-le, take-append-seam, drop-append-add, drop-drop, length-sets}
-use Rattle.tables.proofs.FirstLaws.{left-suc}
+use borrow.Author.Tests.{eq-eqb, lt-ltb, eqb-true, ltb-true}
+use lib.Dec.{eqb, ltb}
+use lib.ListN.{length, getD, set, take, drop, length-append, length-drop, take-append-drop, drop-of-length-le}
+use lib.Seq.{sets, sets-eq, length-sets, set-comm, take-suc, take-add, take-take, take-set-le, take-append-seam, drop-drop, drop-append-add, drop-append-le, getD-take, length-take-le}
 use Rattle.extern_call.specs.Gather.{gather}
-use Rattle.extern_call.specs.Access.{inserted, insertAll, lowerOf, upperOf, Listed}
+use Rattle.extern_call.specs.Access.{inserted, insertAll, lowerOf, upperOf, Listed, Ascending, below}
+use Rattle.extern_call.proofs.GatherLaws.{sets-append}
+use Rattle.extern_call.proofs.SetLaws.{all-ascending}
+use Rattle.extern_call.proofs.PlaceLaws.{inserted-there, inserted-new}
 
 -- what is stored where it stands changes nothing
 sets-same : (l : List ℕ) (i k : ℕ) → i + k ≤ length l → sets l i (take k (drop i l)) ≡ l
@@ -23,57 +25,67 @@ sets-same l i k h =
 pub same-listed : (l : List ℕ) (count : ℕ) → count < length l → Listed (take count l) l l count
 same-listed l count h = record { count = sym (length-take-le count l (omega arith)); words = sym (sets-same l 0 count (omega arith)) }
 
--- the names from i on, the first apart
-part : (l : List ℕ) (count i : ℕ) → i < count → count < length l → take (count - i) (drop i l) ≡ getD l i 0 ∷ take (count - (i + 1)) (drop (i + 1) l)
-part l count i h b = let g : i < length l = omega arith in rw (left-suc count i h, drop-cons l i 0 g, add-one i)
+-- of names stored from i on, the last may be stored first
+sets-last : (a l : List ℕ) (i v : ℕ) → sets l i (a ++ v ∷ []) ≡ sets (set l (i + length a) v) i a
+sets-last [] l i v = let e : i + 0 ≡ i = omega arith in rw e
+sets-last (x ∷ a) l i v =
+    let e : suc i + length a ≡ i + suc (length a) = omega arith in
+    let n : i ≡ suc i + length a → ⊥ = λ q. omega arith in
+    sets-last a (set l i x) (suc i) v ∙ rw (set-comm l i (suc i + length a) x v n, e)
 
-inserted-past : (x y : ℕ) (l : List ℕ) → (x ≡ y → ⊥) → inserted x (y ∷ l) ≡ lowerOf x y ∷ inserted (upperOf x y) l
-unfolding inserted
-inserted-past x y l e = rw (ne-eqb x y e)
+-- the names from `place` below i have yet to go up by one, and the name to its place: a turn of the loop, and its end
+module _ (now : List ℕ) (place name i : ℕ) (room : i < length now) where
+  pub moving-turn : place < i → sets (set now i (getD now (i - 1) 0)) place (name ∷ drop place (take (i - 1) (set now i (getD now (i - 1) 0))))
+      ≡ sets now place (name ∷ drop place (take i now))
+  moving-turn h =
+      let v = getD now (i - 1) 0 in
+      let s : suc (i - 1) ≡ i = omega arith in
+      let t : take i now ≡ take (i - 1) now ++ v ∷ [] = rw s at (take-suc now (i - 1) 0 (omega arith)) in
+      let n : length (take (i - 1) now) ≡ i - 1 = length-take-le (i - 1) now (omega arith) in
+      let rest = drop place (take (i - 1) now) in
+      let d : drop place (take i now) ≡ rest ++ v ∷ [] = rw t (drop-append-le place (take (i - 1) now) (v ∷ []) (omega arith)) in
+      let k : place + suc (length rest) ≡ i = simp (length-drop, n) (omega arith) in
+      let z : sets now place (name ∷ rest ++ v ∷ []) ≡ sets (set now i v) place (name ∷ rest) = sets-last (name ∷ rest) now place v ∙ rw k in
+      rw (take-set-le (i - 1) now i v (omega arith), d) (sym z)
 
-inserted-last : (x : ℕ) → inserted x [] ≡ x ∷ []
-unfolding inserted
-inserted-last x = refl
+  pub moving-end : i ≤ place → sets now place (name ∷ drop place (take i now)) ≡ set now place name
+  moving-end h =
+      let n = length-take-le i now (omega arith) in
+      let k : length (take i now) ≤ place = omega arith in
+      rw (drop-of-length-le (take i now) k)
 
--- the names before i are in place: the carried name goes among the rest as `name` goes among all
-pub record Inserting (before : List ℕ) (count name : ℕ) (now : List ℕ) (carry i : ℕ) : Type 0 where
-  pub rest : sets now i (inserted carry (take (count - i) (drop i now))) ≡ sets before 0 (inserted name (take count before))
-  pub size : i + length (inserted carry (take (count - i) (drop i now))) ≡ length (inserted name (take count before))
+both : (a b : Bool) → (a && b) ≡ true → (a ≡ true) × (b ≡ true)
+both true b e = (refl, e)
+both false b e = (e, cc)
 
-module _ (before : List ℕ) (count name : ℕ) where
-  pub inserting-start : Inserting before count name before name 0
-  inserting-start = let e : count - 0 ≡ count = omega arith in record { rest = rw e; size = rw e (omega arith) }
+-- the name at its place, tested as the code does
+module _ (l : List ℕ) (count name place : ℕ) (room : count < length l) (at : (place ≤ count) × (place ≡ below name (take count l))) where
+  pub insert-there : (ltb place count && eqb (getD l place 0) name) ≡ true → Listed (inserted name (take count l)) l l count
+  insert-there e =
+      let t = both (ltb place count) (eqb (getD l place 0) name) e in
+      let h : place < count = ltb-true place count (t .0) in
+      let n : length (take count l) ≡ count = length-take-le count l (omega arith) in
+      let g : getD (take count l) place 0 ≡ name = getD-take count l place 0 h ∙ eqb-true (getD l place 0) name (t .1) in
+      let s : inserted name (take count l) ≡ take count l = inserted-there name (take count l) (omega arith) (rw (at .1) at g) in
+      rw s (same-listed l count room)
 
-  module _ (now : List ℕ) (carry i : ℕ) (room : count < length now) (r : Inserting before count name now carry i) where
-    pub inserting-same : i < count → carry ≡ getD now i 0 → Listed (inserted name (take count before)) before now count
-    unfolding inserted
-    inserting-same h e =
-        let s : inserted carry (take (count - i) (drop i now)) ≡ take (count - i) (drop i now) =
-        rw (part now count i h room, eq-eqb carry (getD now i 0) e) in
-        let n : length (take (count - i) (drop i now)) ≡ count - i =
-        length-take-le (count - i) (drop i now) (rw length-drop (omega arith)) in
-        let q : i + length (take (count - i) (drop i now)) ≡ length (inserted name (take count before)) = rw s at (r .size) in
-        record { count = omega (arith, n); words = sym (sets-same now i (count - i) (omega arith)) ∙ (rw s at (r .rest)) }
-
-    pub inserting-turn : i < count → (carry ≡ getD now i 0 → ⊥)
-        → Inserting before count name (set now i (lowerOf carry (getD now i 0))) (upperOf carry (getD now i 0)) (i + 1)
-    inserting-turn h e =
-        let m = lowerOf carry (getD now i 0) in
-        let rest = inserted (upperOf carry (getD now i 0)) (take (count - (i + 1)) (drop (i + 1) now)) in
-        let s : inserted carry (take (count - i) (drop i now)) ≡ m ∷ rest = rw (part now count i h room) (inserted-past _ _ _ e) in
-        let d : drop (i + 1) (set now i m) ≡ drop (i + 1) now = drop-set-lt (i + 1) now i m (omega arith) in
-        let t : sets (set now i m) (suc i) rest ≡ sets before 0 (inserted name (take count before)) = rw s at (r .rest) in
-        let z : i + suc (length rest) ≡ length (inserted name (take count before)) = rw s at (r .size) in
-        record { rest = rw (d, add-one i) (rw (add-one i) at t); size = rw d (omega arith) }
-
-    pub inserting-end : count ≤ i → i ≤ count → Listed (inserted name (take count before)) before (set now count carry) (count + 1)
-    inserting-end h g =
-        let p : i ≡ count = omega arith in
-        let q : count - i ≡ 0 = omega arith in
-        let s : inserted carry (take (count - i) (drop i now)) ≡ carry ∷ [] = rw q (inserted-last carry) in
-        let z : i + 1 ≡ length (inserted name (take count before)) = rw s at (r .size) in
-        let t : set now i carry ≡ sets before 0 (inserted name (take count before)) = rw s at (r .rest) in
-        record { count = omega arith; words = rw p at t }
+  pub insert-new : (now : List ℕ) → Ascending (take count l) → (ltb place count && eqb (getD l place 0) name) ≡ false
+      → now ≡ sets l place (name ∷ drop place (take count l)) → Listed (inserted name (take count l)) l now (count + 1)
+  insert-new now a f e =
+      let m = take count l in
+      let n : length m ≡ count = length-take-le count l (omega arith) in
+      let g : place < count → getD l place 0 ≡ name → ⊥ =
+      λ k q.
+      let w = rw (lt-ltb place count k, eq-eqb (getD l place 0) name q) at f in
+      let z : _≡_ {A = ℕ} 0 1 = cc in omega arith in
+      let s : inserted name m ≡ take place m ++ name ∷ drop place m =
+      rw (at .1) (inserted-new name m a (λ k q. g (omega arith) (sym (getD-take count l place 0 (omega arith)) ∙ rw (at .1) q))) in
+      let t : take place m ≡ take place l = take-take place count l (at .0) in
+      let k : length (take place l) ≡ place = length-take-le place l (omega arith) in
+      let z : 0 + place ≡ place = omega arith in
+      let u : sets l 0 (take place l ++ name ∷ drop place m) ≡ sets l place (name ∷ drop place m) =
+      sets-append (take place l) (name ∷ drop place m) l 0 ∙ rw (sets-same l 0 place (omega arith), k, z) in
+      record { count = rw (s, t) (simp (length-append, k, length-drop, n) (omega arith)); words = rw (s, t, u) e }
 
 take-sets : (s l : List ℕ) → length s ≤ length l → take (length s) (sets l 0 s) ≡ s
 take-sets s l h = rw (sets-eq s l 0 (omega arith)) (take-append-seam s (drop (0 + length s) l))
@@ -129,12 +141,21 @@ module _ (f : ℕ → List ℕ) (before : List ℕ) where
   unfolding gather insertAll
   collecting-start = record { listed = record { count = refl; words = refl }; few = omega arith }
 
+  module _ (now : List ℕ) (count i : ℕ) (h : i ≤ length before) (c : Collecting f before now count i) where
+    collecting-names : take count now ≡ insertAll [] (gather f 0 i)
+    collecting-names =
+        let n = c .listed .count in
+        rw (n, c .listed .words) (take-sets (insertAll [] (gather f 0 i)) before (omega (arith, n, c .few)))
+
+    pub collecting-ascends : Ascending (take count now)
+    collecting-ascends = rw collecting-names (all-ascending (gather f 0 i))
+
   pub collecting-turn : (now now′ : List ℕ) (count count′ i : ℕ) → i < length before → length (f i) ≤ 1
       → Collecting f before now count i → Listed (insertAll (take count now) (f i)) now now′ count′ → Collecting f before now′ count′ (i + 1)
   collecting-turn now now′ count count′ i h one c l =
       let s = insertAll [] (gather f 0 i) in
       let n = c .listed .count in
-      let t : take count now ≡ s = rw (n, c .listed .words) (take-sets s before (omega (arith, n, c .few))) in
+      let t : take count now ≡ s = collecting-names now count i (omega arith) c in
       let m : gather f 0 (i + 1) ≡ gather f 0 i ++ f i = let z : 0 + i ≡ i = omega arith in rw (add-one i) (rw z at (gather-more f 0 i)) in
       let g : insertAll [] (gather f 0 (i + 1)) ≡ insertAll s (f i) = rw m (insertAll-append (gather f 0 i) (f i) []) in
       let b = insertAll-length s (f i) in

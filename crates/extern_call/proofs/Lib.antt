@@ -2,7 +2,8 @@
 pub mod GatherLaws
 pub mod RowLaws
 pub mod CallLaws
-pub mod InsertLaws
 pub mod SetLaws
+pub mod PlaceLaws
+pub mod InsertLaws
 pub mod ResolvedLaws
 pub mod ResolvesLaws

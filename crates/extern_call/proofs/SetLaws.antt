@@ -43,10 +43,14 @@ unfolding Ascending Above inserted lowerOf upperOf
 insert-ascending [] n a = tt
 insert-ascending (y ∷ l) n a = ascending-step (eqb n y) (ltb n y) n y l refl refl a
 
-all-ascending : (ns s : List ℕ) → Ascending s → Ascending (insertAll s ns)
+on-ascending : (ns s : List ℕ) → Ascending s → Ascending (insertAll s ns)
 unfolding insertAll
-all-ascending [] s a = a
-all-ascending (n ∷ ns) s a = all-ascending ns (inserted n s) (insert-ascending s n a)
+on-ascending [] s a = a
+on-ascending (n ∷ ns) s a = on-ascending ns (inserted n s) (insert-ascending s n a)
+
+pub all-ascending : (ns : List ℕ) → Ascending (insertAll [] ns)
+unfolding Ascending
+all-ascending ns = on-ascending ns [] tt
 
 or-twice : (a b : Bool) → (a || b) ≡ (a || (a || b))
 or-twice true b = refl
@@ -87,8 +91,8 @@ has-all (n ∷ ns) s x = has-all ns (inserted n s) x ∙ rw (has-insert s x n) (
 
 module _ (parameters arguments : List ℕ) (call : Call) (access : Access) where
   pub access-ascending : Ascending (accessOf parameters arguments call access)
-  unfolding accessOf Ascending
-  access-ascending = all-ascending (gather (namesAt parameters arguments call access) 0 (pairedCount call)) [] tt
+  unfolding accessOf
+  access-ascending = all-ascending (gather (namesAt parameters arguments call access) 0 (pairedCount call))
 
   pub access-exact : (x : ℕ)
       → has x (accessOf parameters arguments call access) ≡ has x (gather (namesAt parameters arguments call access) 0 (pairedCount call))

@@ -1,5 +1,5 @@
 -- 01, Calls: "Access sets: distinct names, ascending." Order: "Access: 1, 2, 3, 6, 4 (argument count in each list)."
-use Prim.Native.Nat.{ℕ, _+_, _<_}
+use Prim.Native.Nat.{ℕ, suc, _+_, _<_}
 use mathlib.Core.Path.{_≡_}
 use mathlib.Core.Bool.{Bool, true, false, not, cond, _||_}
 use mathlib.Core.List.{List, [], _∷_}
@@ -114,3 +114,8 @@ Ascending (x ∷ l) = Above x l
 unfoldable pub has : ℕ → List ℕ → Bool
 has x [] = false
 has x (y ∷ l) = eqb x y || has x l
+
+-- how many names are below x, up to the first that is not: x's place among ascending names
+unfoldable pub below : ℕ → List ℕ → ℕ
+below x [] = 0
+below x (y ∷ l) = cond (ltb y x) (suc (below x l)) 0

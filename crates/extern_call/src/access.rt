@@ -1,10 +1,12 @@
 // The access sets of a CALL: the names that it reads and those that it writes, ascending, in lent lists.
 ghost use mathlib.Core.Path.{_≡_};
 ghost use Prim.Native.Nat.{_+_, _^_, _≤_, _<_};
-ghost use lib.ListN.{length, take};
+ghost use mathlib.Core.List.{_∷_};
+ghost use lib.ListN.{length, take, drop};
+ghost use lib.Seq.{sets};
 ghost use Rattle.tables.specs.Rows.{parameterRows};
 ghost use Rattle.extern_call.specs.Call.{arityOf, Ranges, Paired, CallRanges};
-ghost use Rattle.extern_call.specs.Access.{lowerOf, upperOf, inserted, insertAll, Listed, namesIn, writtenAt, listedAt, namesAt, pairedCount, accessOf, accessAnswer, accessCall};
+ghost use Rattle.extern_call.specs.Access.{inserted, insertAll, Listed, Ascending, below, namesIn, writtenAt, listedAt, namesAt, pairedCount, accessOf, accessAnswer, accessCall};
 use crate::argument::UnresolvedCallArgument;
 use crate::argument::decode;
 use crate::call::Call;
@@ -31,47 +33,53 @@ pub enum AccessAnswer {
     Sets(usize, usize),
 }
 
-fn lower(x: u64, y: u64) -> u64
-    ensures { λ r. ⌜ r ≡ lowerOf x y ⌝ }
+// The place of a name among the first `count`, which ascend: how many are below it.
+fn place_among(names: &[u64], count: usize, name: u64) -> usize
+    requires { ⌜ (count ≤ length (now names)) × Ascending (take count (now names)) ⌝ }
+    ensures { λ r. ⌜ (r ≤ count) × (r ≡ below name (take count (now (names .entry)))) ⌝ }
 {
-    if x < y {
-        return x;
+    let mut low = 0;
+    let mut high = count;
+    while low < high {
+        let middle = low + (high - low) / 2;
+        if names[middle] < name {
+            low = middle + 1;
+        } else {
+            high = middle;
+        }
     }
-    y
+    low
 }
 
-fn upper(x: u64, y: u64) -> u64
-    ensures { λ r. ⌜ r ≡ upperOf x y ⌝ }
+// Puts a name at its place among the first `count`; those from there on go up by one.
+fn put_at(names: &mut [u64], count: usize, place: usize, name: u64)
+    requires { ⌜ (place ≤ count) × (count < length (now names)) ⌝ }
+    ensures { λ r. ⌜ now (names .exit) ≡ sets (now (names .entry)) place (name ∷ drop place (take count (now (names .entry)))) ⌝ }
 {
-    if x < y {
-        return y;
+    let mut i = count;
+    while place < i {
+        names[i] = names[i - 1];
+        i -= 1;
     }
-    x
+    names[place] = name;
 }
 
-// A name among the first `count`, which ascend: the lower of two stays, the upper goes on. The new count.
+// A name among the first `count`, which ascend. The new count.
 fn insert(names: &mut [u64], count: usize, name: u64) -> usize
-    requires { ⌜ count < length (now names) ⌝ }
+    requires { ⌜ (count < length (now names)) × Ascending (take count (now names)) ⌝ }
     ensures { λ r. ⌜ Listed (inserted name (take count (now (names .entry)))) (now (names .entry)) (now (names .exit)) r ⌝ }
 {
-    let mut carry = name;
-    let mut i = 0;
-    while i < count {
-        let here = names[i];
-        if carry == here {
-            return count;
-        }
-        names[i] = lower(carry, here);
-        carry = upper(carry, here);
-        i += 1;
+    let place = place_among(names, count, name);
+    if (place < count) & (names[place] == name) {
+        return count;
     }
-    names[count] = carry;
+    put_at(names, count, place, name);
     count + 1
 }
 
 // The name of an identifier or a reference. The new count.
 fn insert_name(names: &mut [u64], count: usize, row: Argument) -> usize
-    requires { ⌜ count < length (now names) ⌝ }
+    requires { ⌜ (count < length (now names)) × Ascending (take count (now names)) ⌝ }
     ensures { λ r. ⌜ Listed (insertAll (take count (now (names .entry))) (namesIn row)) (now (names .entry)) (now (names .exit)) r ⌝ }
 {
     let argument = decode(row);
@@ -118,7 +126,7 @@ fn visit(
     names: &mut [u64],
     count: usize,
 ) -> usize
-    requires { ⌜ Paired (now parameters) (now arguments) call i × (count < length (now names)) ⌝ }
+    requires { ⌜ Paired (now parameters) (now arguments) call i × (count < length (now names)) × Ascending (take count (now names)) ⌝ }
     ensures { λ r. ⌜ Listed (insertAll (take count (now (names .entry))) (namesAt (now (parameters .entry)) (now (arguments .entry)) call access i)) (now (names .entry)) (now (names .exit)) r ⌝ }
 {
     if is_listed(parameters, call, i, access) {

@@ -5,7 +5,7 @@ use lib.ListN.{length}
 use Rattle.extern_call.specs.Access.{namesAt, pairedCount, accessOf}
 use Rattle.extern_call.proofs.RowLaws.{names-few}
 use Rattle.extern_call.proofs.CallLaws.{paired-below, ranges-paired}
-use Rattle.extern_call.proofs.InsertLaws.{Collecting, collecting-start, collecting-turn}
+use Rattle.extern_call.proofs.InsertLaws.{Collecting, collecting-start, collecting-turn, collecting-ascends}
 use Rattle.extern_call.proofs.access.collect.Statement.{statement}
 use Rattle.extern_call.proofs.access.collect.Tie as tie
 
@@ -22,7 +22,7 @@ loop-holds : tie.Need-loop-holds Inv-loop μ-loop
 loop-holds c = (omega arith, refl, collecting-start _ _)
 
 visit-requires : tie.Need-visit-requires Inv-loop μ-loop
-visit-requires c κs = let h = paired-below _ _ (rw (c .before .before .before .paired-count .ensures) at (c .before .loop-test .taken)) in (ranges-paired _ (c .before .before .before .before .before .before .before .pre .0) (rw (c .before .before .before .paired-count .ensures) at (c .before .loop-test .taken)), omega (arith, h .0, c .before .before .loop .inv .2 .few))
+visit-requires c κs = let h = paired-below _ _ (rw (c .before .before .before .paired-count .ensures) at (c .before .loop-test .taken)) in (ranges-paired _ (c .before .before .before .before .before .before .before .pre .0) (rw (c .before .before .before .paired-count .ensures) at (c .before .loop-test .taken)), omega (arith, h .0, c .before .before .loop .inv .2 .few), collecting-ascends _ _ _ _ _ (omega (arith, h .0)) (c .before .before .loop .inv .2))
 
 add-i : tie.Need-add-i Inv-loop μ-loop
 add-i c = omega arith

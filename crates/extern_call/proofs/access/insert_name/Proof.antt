@@ -39,7 +39,7 @@ returns-2 c = rw (sym (c .before .before .before .before .before .before .before
 
 returns-3 : tie.Need-returns-3
 unfolding namesIn insertAll
-returns-3 c = rw (sym (c .before .before .decode .ensures) ∙ c .enum-told .given .1) (same-listed _ _ (c .before .before .before .before .pre))
+returns-3 c = rw (sym (c .before .before .decode .ensures) ∙ c .enum-told .given .1) (same-listed _ _ (c .before .before .before .before .pre .0))
 
 pub insert-name-spec : {M : Type 1} → statement M
 insert-name-spec =
