@@ -1,4 +1,4 @@
-use crate::{foreign::with_tables, sizes, Kind, Refusal, Tables};
+use crate::{raw, sizes, Kind, Refusal, Tables};
 use std::slice::ChunksExact;
 
 /// A CALL's argument, resolved to its parameter or its extern's return.
@@ -83,9 +83,9 @@ pub struct AccessSets<'r> {
 /// The arguments of the CALL in that row. `rows` takes 7 words an argument.
 /// Refusals in order: 1, 2, 3, 6, 7, 4, 8.
 pub fn resolve<'r>(tables: &Tables, row: u64, rows: &'r mut [u64]) -> Result<ResolvedArguments<'r>, Unresolved<'r>> {
-    let mut count = 0;
-    let number = with_tables!(console_resolve, tables, row, rows.as_mut_ptr(), rows.len(), &mut count);
-    let count = count as usize;
+    let mut count = [0];
+    let number = raw::resolve(tables, row, rows, &mut count);
+    let count = count[0] as usize;
     match number {
         0 => Ok(ResolvedArguments(rows[..count * sizes::RESOLVED_ROW].chunks_exact(sizes::RESOLVED_ROW))),
         8 => Err(Unresolved::Errors(Errors(rows[..count * sizes::ERROR_ROW].chunks_exact(sizes::ERROR_ROW)))),
@@ -102,17 +102,7 @@ pub fn access<'r>(
     writes: &'r mut [u64],
 ) -> Result<AccessSets<'r>, Refusal> {
     let mut counts = [0; 2];
-    let number = with_tables!(
-        console_access,
-        tables,
-        row,
-        reads.as_mut_ptr(),
-        reads.len(),
-        writes.as_mut_ptr(),
-        writes.len(),
-        counts.as_mut_ptr()
-    );
-    match number {
+    match raw::access(tables, row, reads, writes, &mut counts) {
         0 => Ok(AccessSets { reads: &reads[..counts[0] as usize], writes: &writes[..counts[1] as usize] }),
         number => Err(Refusal::plain(number)),
     }

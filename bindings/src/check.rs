@@ -1,4 +1,4 @@
-use crate::{foreign::with_tables, Kind, Refusal, Tables};
+use crate::{raw, Kind, Refusal, Tables};
 
 /// The first type error of a program.
 #[derive(Clone, Copy, Debug, PartialEq, Eq)]
@@ -46,7 +46,7 @@ pub enum Code {
 /// The type check of a program. Refusals in order: 1, 2, 3, 5.
 pub fn check(tables: &Tables) -> Result<(), Refusal> {
     let mut error = [0; 6];
-    match with_tables!(console_check, tables, error.as_mut_ptr()) {
+    match raw::check(tables, &mut error) {
         0 => Ok(()),
         number => Err(Refusal::returned(number, &error)),
     }

@@ -1,5 +1,5 @@
-//! console.h's declarations. Every function is total on the words it is lent: what it asks for is live, aligned
-//! buffers that do not overlap, which slices are.
+//! console.h's declarations, for `raw` alone. TABLES is six slices: regions, externs, parameters, nodes, arguments,
+//! instructions.
 
 macro_rules! console_calls {
     ($(fn $name:ident($($argument:ident: $type:ty),*);)*) => {
@@ -71,23 +71,3 @@ extern "C" {
         found: *mut u64,
     ) -> u64;
 }
-
-/// Calls a function of console.h with the six tables before its other arguments.
-macro_rules! with_tables {
-    ($function:ident, $tables:expr $(, $more:expr)*) => {{
-        let tables: &$crate::Tables = $tables;
-        // Safety: slices are live, aligned and of these lengths; what is written is borrowed alone.
-        unsafe {
-            $crate::foreign::$function(
-                tables.regions.as_ptr(), tables.regions.len(),
-                tables.externs.as_ptr(), tables.externs.len(),
-                tables.parameters.as_ptr(), tables.parameters.len(),
-                tables.nodes.as_ptr(), tables.nodes.len(),
-                tables.arguments.as_ptr(), tables.arguments.len(),
-                tables.instructions.as_ptr(), tables.instructions.len()
-                $(, $more)*
-            )
-        }
-    }};
-}
-pub(crate) use with_tables;

@@ -6,6 +6,7 @@ mod call;
 mod check;
 mod foreign;
 mod kind;
+pub mod raw;
 mod refusal;
 mod session;
 mod tables;

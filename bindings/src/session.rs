@@ -1,4 +1,4 @@
-use crate::{foreign::with_tables, Kind, Refusal, Tables};
+use crate::{raw, Kind, Refusal, Tables};
 
 /// Where a session is. Keep the one that the last call gave.
 #[derive(Clone, Copy, Debug, Default, PartialEq, Eq)]
@@ -30,17 +30,7 @@ impl ReplyRow {
 /// entry. Refusals in order: 1, 2, 3, 10, 4, 5, 9, then 6, 7, 8 by row.
 pub fn open(tables: &Tables, memory: &mut [u64], journal: &[u64]) -> Result<Position, Refusal> {
     let (mut position, mut error) = ([0; 2], [0; 6]);
-    let number = with_tables!(
-        console_open,
-        tables,
-        memory.as_mut_ptr(),
-        memory.len(),
-        journal.as_ptr(),
-        journal.len(),
-        position.as_mut_ptr(),
-        error.as_mut_ptr()
-    );
-    match number {
+    match raw::open(tables, memory, journal, &mut position, &mut error) {
         0 => Ok(Position::of(position)),
         number => Err(Refusal::returned(number, &error)),
     }
@@ -57,18 +47,7 @@ pub fn forward(
     reply: &[u64],
 ) -> Result<Position, Refusal> {
     let mut position = position.words();
-    let number = with_tables!(
-        console_forward,
-        tables,
-        memory.as_mut_ptr(),
-        memory.len(),
-        journal.as_mut_ptr(),
-        journal.len(),
-        position.as_mut_ptr(),
-        reply.as_ptr(),
-        reply.len()
-    );
-    match number {
+    match raw::forward(tables, memory, journal, &mut position, reply) {
         0 => Ok(Position::of(position)),
         number => Err(Refusal::plain(number)),
     }
@@ -78,16 +57,7 @@ pub fn forward(
 /// Refusals in order: 1, 2, 3, 10, 4, 19, 12, 19.
 pub fn back(tables: &Tables, memory: &mut [u64], journal: &[u64], position: Position) -> Result<Position, Refusal> {
     let mut position = position.words();
-    let number = with_tables!(
-        console_back,
-        tables,
-        memory.as_mut_ptr(),
-        memory.len(),
-        journal.as_ptr(),
-        journal.len(),
-        position.as_mut_ptr()
-    );
-    match number {
+    match raw::back(tables, memory, journal, &mut position) {
         0 => Ok(Position::of(position)),
         number => Err(Refusal::plain(number)),
     }

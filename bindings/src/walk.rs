@@ -1,4 +1,4 @@
-use crate::{foreign, Refusal};
+use crate::{raw, Refusal};
 
 #[derive(Clone, Copy, Debug, PartialEq, Eq)]
 pub struct Reference {
@@ -13,12 +13,12 @@ pub struct References<'a> {
     nodes: &'a [u64],
     first: u64,
     count: u64,
-    place: u64,
+    place: [u64; 1],
 }
 
 /// The walk over the tree of `count` nodes from `first` on. Refusals in order: 1, 2.
 pub fn references(nodes: &[u64], first: u64, count: u64) -> Result<References<'_>, Refusal> {
-    let walk = References { nodes, first, count, place: 0 };
+    let walk = References { nodes, first, count, place: [0] };
     // The library looks at the nodes at each call; a walk that starts is not refused later.
     match walk.clone().found() {
         Ok(_) => Ok(walk),
@@ -30,18 +30,7 @@ impl References<'_> {
     /// 1, name, index, or 0, 0, 0 at the end.
     fn found(&mut self) -> Result<[u64; 3], u64> {
         let mut found = [0; 3];
-        // Safety: the slice is live, aligned and of this length; place and found are borrowed alone.
-        let number = unsafe {
-            foreign::console_reference(
-                self.nodes.as_ptr(),
-                self.nodes.len(),
-                self.first,
-                self.count,
-                &mut self.place,
-                found.as_mut_ptr(),
-            )
-        };
-        match number {
+        match raw::reference(self.nodes, self.first, self.count, &mut self.place, &mut found) {
             0 => Ok(found),
             number => Err(number),
         }

@@ -1,9 +1,11 @@
 //! `resolve`, `access` and the walk beside `resolve_arguments`, `default_memory_accesses` and `memory_references`.
 use crate::{
     case::{hidden, Against, Case},
-    check_cases::lent,
-    expression::{plain_leaf, tree},
     inputs::{self, Names},
+};
+use library::lent;
+use oracle::{
+    expression::{plain_leaf, tree},
     program::{call, program, Naming},
     signatures::signatures,
 };
@@ -37,7 +39,7 @@ pub fn all() -> Vec<Case> {
 fn resolve(input: String, tables: Tables, row: u64, fits: bool) -> Case {
     let declarations = Tables { regions: tables.regions.clone(), ..Tables::default() };
     let regions = program(&declarations, Naming::Plain).expect("regions").memory_regions;
-    let signatures = signatures(&tables);
+    let signatures = signatures(&tables).expect("names that quil-rs takes");
     let call = call(&tables, tables.instruction(row as usize)).expect("a CALL");
     let mut rows = vec![0; tables.arguments.len() / tables::ARGUMENT * 7];
     assert_eq!(call.resolve_arguments(&regions, &signatures).is_ok(), fits, "{input}");
@@ -57,7 +59,7 @@ fn resolve(input: String, tables: Tables, row: u64, fits: bool) -> Case {
 }
 
 fn access(input: String, tables: Tables, row: u64) -> Case {
-    let signatures = signatures(&tables);
+    let signatures = signatures(&tables).expect("names that quil-rs takes");
     let call = call(&tables, tables.instruction(row as usize)).expect("a CALL");
     let room = tables.arguments.len() / tables::ARGUMENT;
     let (mut reads, mut writes) = (vec![0; room], vec![0; room]);

@@ -2,8 +2,9 @@
 use crate::{
     case::{hidden, Against, Case},
     inputs,
-    program::{program, Naming},
 };
+use library::lent;
+use oracle::program::{program, Naming};
 use quil_rs::program::type_check::type_check;
 use tables::Tables;
 
@@ -53,16 +54,5 @@ fn case(input: String, tables: Tables, accepted: bool) -> Case {
         theirs: Box::new(move || {
             let _ = hidden(&type_check(hidden(&converted)));
         }),
-    }
-}
-
-pub fn lent(tables: &Tables) -> mugwortlatch::Tables<'_> {
-    mugwortlatch::Tables {
-        regions: &tables.regions,
-        externs: &tables.externs,
-        parameters: &tables.parameters,
-        nodes: &tables.nodes,
-        arguments: &tables.arguments,
-        instructions: &tables.instructions,
     }
 }

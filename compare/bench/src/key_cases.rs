@@ -1,9 +1,9 @@
 //! A key press, forward and back, beside one read of all words of the tables.
 use crate::{
     case::{hidden, Against, Call, Case},
-    check_cases::lent,
     inputs,
 };
+use library::lent;
 use mugwortlatch::{sizes, Kind, Position, ReplyRow};
 use tables::Tables;
 

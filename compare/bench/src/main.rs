@@ -4,19 +4,9 @@ mod call_cases;
 mod case;
 mod check_cases;
 mod count;
-#[path = "../../oracle/src/expression.rs"]
-#[allow(dead_code)]
-mod expression;
 mod inputs;
 mod key_cases;
-#[path = "../../oracle/src/names.rs"]
-#[allow(dead_code)]
-mod names;
-#[path = "../../oracle/src/program.rs"]
-#[allow(dead_code)]
-mod program;
 mod report;
-mod signatures;
 mod time;
 
 use case::Case;

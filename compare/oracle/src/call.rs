@@ -1,13 +1,14 @@
 //! A CALL's resolved arguments or errors, and its access sets.
 use crate::{
-    names::{kind, name, number, scalar, vector},
+    names::{kind, number},
     program::{call, program, Naming},
+    signatures::signatures,
 };
 use quil_rs::instruction::{
-    CallArgumentError, CallArgumentResolutionError, CallResolutionError, CallSignatureError, ExternParameter,
-    ExternParameterType, ExternSignature, ExternSignatureMap, ResolvedCallArgument, UnresolvedCallArgument,
+    CallArgumentError, CallArgumentResolutionError, CallResolutionError, CallSignatureError, ResolvedCallArgument,
+    UnresolvedCallArgument,
 };
-use tables::{Answer, Tables, NO_RETURN, PARAMETER};
+use tables::{Answer, Tables};
 
 const EXTERN_NOT_FOUND: u64 = 6;
 const ARGUMENT_COUNT: u64 = 7;
@@ -66,28 +67,6 @@ where
         answer.out[0] += 1;
     }
     Ok(answer)
-}
-
-fn signatures(tables: &Tables) -> Result<ExternSignatureMap, String> {
-    let signatures = tables
-        .externs()
-        .map(|e| {
-            let returned = if e[1] == NO_RETURN { None } else { Some(scalar(e[1])) };
-            let parameters =
-                tables.parameters_of(e[2], e[3]).chunks(PARAMETER).map(parameter).collect::<Result<_, String>>()?;
-            Ok((name(e[0]), ExternSignature::new(returned, parameters)))
-        })
-        .collect::<Result<Vec<_>, String>>()?;
-    Ok(ExternSignatureMap::of_signatures(signatures))
-}
-
-fn parameter(p: &[u64]) -> Result<ExternParameter, String> {
-    let data_type = match p[2] {
-        0 => ExternParameterType::Scalar(scalar(p[3])),
-        1 => ExternParameterType::FixedLengthVector(vector(p[3], p[4])),
-        _ => ExternParameterType::VariableLengthVector(scalar(p[3])),
-    };
-    ExternParameter::try_new(name(p[0]), p[1] != 0, data_type).map_err(|error| error.to_string())
 }
 
 fn resolved_row(argument: &ResolvedCallArgument) -> Result<[u64; 5], String> {

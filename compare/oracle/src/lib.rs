@@ -1,9 +1,11 @@
 //! quil-rs's answers about a program in tables: tables to quil-rs's types, its own functions, its results to words.
+//! What makes the types is public, so that the measurement runs quil-rs on the same ones.
 mod call;
 mod check;
-mod expression;
+pub mod expression;
 mod names;
-mod program;
+pub mod program;
+pub mod signatures;
 
 use tables::{Answer, Query, Tables};
 

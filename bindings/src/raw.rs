@@ -1,0 +1,117 @@
+//! The raw C interface: console.h's functions on slices of words. Each returns 0 or the refusal's number and leaves
+//! every lent word as console.h says; nothing is decoded. The rest of the crate is these calls with enums around them;
+//! `compare/` takes them as they are, to hold each word against another machine's.
+//!
+//! All `unsafe` of the crate stands here. A call is total on the words it is lent: what it asks for is live, aligned
+//! buffers that do not overlap and are not null, which slices are.
+use crate::{foreign, Tables};
+
+/// Calls a function of console.h with the six tables before its other arguments.
+macro_rules! with_tables {
+    ($function:ident, $tables:expr $(, $more:expr)*) => {
+        // Safety: slices are live, aligned and of these lengths; what is written is borrowed alone.
+        unsafe {
+            foreign::$function(
+                $tables.regions.as_ptr(), $tables.regions.len(),
+                $tables.externs.as_ptr(), $tables.externs.len(),
+                $tables.parameters.as_ptr(), $tables.parameters.len(),
+                $tables.nodes.as_ptr(), $tables.nodes.len(),
+                $tables.arguments.as_ptr(), $tables.arguments.len(),
+                $tables.instructions.as_ptr(), $tables.instructions.len()
+                $(, $more)*
+            )
+        }
+    };
+}
+
+/// `error` on 5.
+#[inline]
+pub fn check(tables: &Tables, error: &mut [u64; 6]) -> u64 {
+    with_tables!(console_check, tables, error.as_mut_ptr())
+}
+
+/// `count` on 0, resolved rows, and on 8, error rows.
+#[inline]
+pub fn resolve(tables: &Tables, row: u64, rows: &mut [u64], count: &mut [u64; 1]) -> u64 {
+    with_tables!(console_resolve, tables, row, rows.as_mut_ptr(), rows.len(), count.as_mut_ptr())
+}
+
+/// `counts` on 0: names read, names written.
+#[inline]
+pub fn access(tables: &Tables, row: u64, reads: &mut [u64], writes: &mut [u64], counts: &mut [u64; 2]) -> u64 {
+    with_tables!(
+        console_access,
+        tables,
+        row,
+        reads.as_mut_ptr(),
+        reads.len(),
+        writes.as_mut_ptr(),
+        writes.len(),
+        counts.as_mut_ptr()
+    )
+}
+
+/// On 0 the new `place`, and `found`: 1, name, index, or 0, 0, 0 at the end.
+#[inline]
+pub fn reference(nodes: &[u64], first: u64, node_count: u64, place: &mut [u64; 1], found: &mut [u64; 3]) -> u64 {
+    let (place, found) = (place.as_mut_ptr(), found.as_mut_ptr());
+    // Safety: the slice is live, aligned and of this length; place and found are borrowed alone.
+    unsafe { foreign::console_reference(nodes.as_ptr(), nodes.len(), first, node_count, place, found) }
+}
+
+/// `position` on 0, `error` on 5.
+#[inline]
+pub fn open(
+    tables: &Tables,
+    memory: &mut [u64],
+    journal: &[u64],
+    position: &mut [u64; 2],
+    error: &mut [u64; 6],
+) -> u64 {
+    with_tables!(
+        console_open,
+        tables,
+        memory.as_mut_ptr(),
+        memory.len(),
+        journal.as_ptr(),
+        journal.len(),
+        position.as_mut_ptr(),
+        error.as_mut_ptr()
+    )
+}
+
+/// The new `position` on 0.
+#[inline]
+pub fn forward(
+    tables: &Tables,
+    memory: &mut [u64],
+    journal: &mut [u64],
+    position: &mut [u64; 2],
+    reply: &[u64],
+) -> u64 {
+    with_tables!(
+        console_forward,
+        tables,
+        memory.as_mut_ptr(),
+        memory.len(),
+        journal.as_mut_ptr(),
+        journal.len(),
+        position.as_mut_ptr(),
+        reply.as_ptr(),
+        reply.len()
+    )
+}
+
+/// The new `position` on 0.
+#[inline]
+pub fn back(tables: &Tables, memory: &mut [u64], journal: &[u64], position: &mut [u64; 2]) -> u64 {
+    with_tables!(
+        console_back,
+        tables,
+        memory.as_mut_ptr(),
+        memory.len(),
+        journal.as_ptr(),
+        journal.len(),
+        position.as_mut_ptr()
+    )
+}
