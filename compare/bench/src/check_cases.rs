@@ -30,6 +30,10 @@ pub fn all() -> Vec<Case> {
     inputs::classical(&mut tables, 512);
     inputs::unused_first(&mut tables, 56);
     cases.push(case("rows: 512, 64 regions, the last 8 in use".to_string(), tables, true));
+    let mut tables = inputs::regions(64, 8);
+    inputs::classical(&mut tables, 8);
+    inputs::share_mark(&mut tables);
+    cases.push(case("rows: 8, 64 regions, names of one mark".to_string(), tables, true));
     for rows in [1, 8, 512] {
         let mut tables = inputs::regions(8, 8);
         inputs::shared_frames(&mut tables, rows, 2048);

@@ -1,5 +1,5 @@
 //! Programs to measure on, built from their sizes.
-use tables::{Tables, INSTRUCTION, NODE, NO_RETURN, PARAMETER};
+use tables::{Tables, ARGUMENT, EXTERN, INSTRUCTION, NODE, NO_RETURN, PARAMETER, REGION};
 
 const INTEGER: u64 = 1;
 const OCTET: u64 = 2;
@@ -23,6 +23,24 @@ pub fn regions(count: u64, length: u64) -> Tables {
 pub fn unused_first(tables: &mut Tables, count: u64) {
     let unused: Vec<u64> = (0..count).flat_map(|i| [10_000 + i, 0, 1]).collect();
     tables.regions.splice(0..0, unused);
+}
+
+/// Spreads the names so that all have one mark in the library, which then compares every two rows' names.
+pub fn share_mark(tables: &mut Tables) {
+    let spread = |name: &mut u64| *name *= 251;
+    tables.regions.chunks_mut(REGION).for_each(|row| spread(&mut row[0]));
+    tables.externs.chunks_mut(EXTERN).for_each(|row| spread(&mut row[0]));
+    tables.nodes.chunks_mut(NODE).filter(|row| row[0] == 0).for_each(|row| spread(&mut row[1]));
+    tables.arguments.chunks_mut(ARGUMENT).filter(|row| row[0] < 2).for_each(|row| spread(&mut row[1]));
+    for row in tables.instructions.chunks_mut(INSTRUCTION).filter(|row| row[0] != 8) {
+        spread(&mut row[2]);
+        if row[0] < 8 {
+            spread(&mut row[4]);
+        }
+        if row[6] == 2 {
+            spread(&mut row[7]);
+        }
+    }
 }
 
 /// A region of that kind, another for each turn.

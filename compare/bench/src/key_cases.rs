@@ -24,6 +24,9 @@ pub fn all() -> Vec<Case> {
     at_limits("a classical row", &limits, 128, &[]);
     at_limits("a CALL, reply of 64 rows", &limits, 0, &reply());
     at_limits("512 frames over all 2,048 nodes", &inputs::overlapping(), 0, &[]);
+    let mut one_mark = limits.clone();
+    inputs::share_mark(&mut one_mark);
+    at_limits("names of one mark", &one_mark, 128, &[]);
     cases.push(reads(limits));
     cases
 }

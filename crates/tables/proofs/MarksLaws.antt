@@ -16,12 +16,12 @@ use Rattle.tables.proofs.LookupLaws.{among-miss}
 never : {A : Type 0} → true ≡ false → A
 never e = let z : _≡_ {A = ℕ} 0 1 = cc in absurd (omega arith)
 
-pub mark-below : (name : ℕ) → markOf name < 256
+pub mark-below : (name : ℕ) → markOf name < 251
 unfolding markOf
 mark-below name = omega arith
 
 -- a name's mark is a place among them
-pub mark-within : (name : ℕ) {r n : ℕ} → r ≡ markOf name → n ≡ 256 → r < n
+pub mark-within : (name : ℕ) {r n : ℕ} → r ≡ markOf name → n ≡ 251 → r < n
 mark-within name e f = omega (arith, mark-below name, e, f)
 
 module _ (width : ℕ) (xs : List ℕ) (marks : List Bool) (n : ℕ) (m : Marked width xs marks n) where
@@ -38,5 +38,5 @@ module _ (width : ℕ) (xs : List ℕ) (marks : List Bool) (n : ℕ) (m : Marked
       at k h (no ne) (no nk) = getD-set-other marks _ _ true false ne ∙ m .set k (omega arith)
 
 -- before the first row no mark need be set
-pub unmarked-rows : (width : ℕ) (xs : List ℕ) (marks : List Bool) → length marks ≡ 256 → Marked width xs marks 0
+pub unmarked-rows : (width : ℕ) (xs : List ℕ) (marks : List Bool) → length marks ≡ 251 → Marked width xs marks 0
 unmarked-rows width xs marks e = record { count = e; set = λ k h. absurd (omega arith) }

@@ -7,9 +7,9 @@ use lib.ListN.{getD, length}
 use Rattle.tables.specs.Lookup.{nameAt}
 
 unfoldable pub markOf : ℕ → ℕ
-markOf name = name % 256
+markOf name = name % 251
 
 -- the marks of the first n rows' names are set
 pub record Marked (width : ℕ) (xs : List ℕ) (marks : List Bool) (n : ℕ) : Type 0 where
-  pub count : length marks ≡ 256
+  pub count : length marks ≡ 251
   pub set : (k : ℕ) → k < n → getD marks (markOf (nameAt width xs k)) false ≡ true

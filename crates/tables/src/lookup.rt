@@ -9,8 +9,8 @@ ghost use Rattle.tables.specs.Marks.{markOf, Marked};
 use crate::rows::EXTERN_WIDTH;
 use crate::rows::REGION_WIDTH;
 
-// How many marks there are.
-const MARKS: u64 = 256;
+// How many marks there are: a prime, so that names at equal steps have different ones.
+const MARKS: u64 = 251;
 
 // Where a name is declared.
 pub enum Found {
