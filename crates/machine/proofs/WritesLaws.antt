@@ -1,9 +1,8 @@
--- Whatever the cells hold, a row that is no CALL writes to cells that are there, as many as its family has changes; a CALL has a write for each row of
--- its reply. Assumes nothing.
-use Prim.Native.Nat.{ℕ, zero, suc, _+_, _<_}
+-- Whatever the cells hold, a row that is no CALL writes to cells that are there, as many as its family has changes. Assumes nothing.
+use Prim.Native.Nat.{ℕ, zero, suc, _<_}
 use mathlib.Core.Bool.{true, not}
 use mathlib.Core.List.{List, [], _∷_}
-use mathlib.Core.Path.{_≡_, refl, ap}
+use mathlib.Core.Path.{_≡_, refl}
 use lib.ListN.{length, getD}
 use lib.Dec.{eqb, ltb}
 use Rattle.tables.specs.Refusal.{noRule}
@@ -12,21 +11,19 @@ use Rattle.tables.specs.Rows.{regionRows}
 use Rattle.tables.specs.Cells.{cellCount}
 use Rattle.tables.specs.declared.rows.Instruction.{Instruction}
 use Rattle.tables.proofs.Loaded.{passed}
-use Rattle.extern_call.specs.declared.call.Call.{Call}
 use Rattle.journal.specs.declared.cells.Write.{Write}
 use Rattle.journal.specs.Each.{Each, none, also}
-use Rattle.machine.specs.Address.{indexedOf, namesOf, addressesOf}
-use Rattle.machine.specs.Cells.{cellKind, readOf, sourceOf}
+use Rattle.operands.specs.Address.{indexedOf, namesOf, addressesOf}
+use Rattle.operands.specs.Cells.{cellKind, readOf, sourceOf, offsetOf}
 use Rattle.operators.specs.Operators.{integerLiteral, realLiteral, arithmeticKinds, arithmeticResult, comparisonKinds, logicKinds, logicResult, unaryKinds}
-use Rattle.machine.specs.Families.{offsetOf, putInto, arithmeticOf, comparisonOf, logicOf, unaryOf, moveOf, exchangeOf, loadOf, storeOf, familyOf}
-use Rattle.machine.specs.Call.{replyRows, replyWritesFrom, replyWrites}
+use Rattle.machine.specs.Families.{putInto, arithmeticOf, comparisonOf, logicOf, unaryOf, moveOf, exchangeOf, loadOf, storeOf, familyOf}
 use Rattle.machine.specs.Outcome.{isOther, plainOutcome}
-use Rattle.machine.specs.declared.cell.Value.{Value}
-use Rattle.machine.specs.declared.address.NamedRegions.{NamedRegions}
-use Rattle.machine.specs.declared.address.Addresses.{Addresses}
-use Rattle.machine.proofs.Binds.{bound}
-use Rattle.machine.proofs.AddressLaws.{indexed-within}
-use Rattle.machine.proofs.Reaches.{Regions, Cells, names-within, addresses-within}
+use Rattle.operands.specs.declared.cell.Value.{Value}
+use Rattle.operands.specs.declared.address.NamedRegions.{NamedRegions}
+use Rattle.operands.specs.declared.address.Addresses.{Addresses}
+use Rattle.operands.proofs.Binds.{bound}
+use Rattle.operands.proofs.AddressLaws.{indexed-within}
+use Rattle.operands.proofs.Reaches.{Regions, Cells, names-within, addresses-within}
 use Rattle.machine.proofs.Ends.{Ends, Any, fine, turned, bind, tested, either, gives, any}
 
 -- the cell of a write is one of the cells
@@ -35,8 +32,6 @@ Within regions w = w .cell < cellCount regions
 
 pub single : {A : Type 0} {P : A → Type 0} {x : A} → P x → Each P (x ∷ [])
 single p = also p none
-
--- ---- a row that is no CALL
 
 -- how many changes a row of each family makes, from family 0: "exchange 2"; "Frame, NOP: no change"
 abbrev pub changes : List ℕ
@@ -127,16 +122,3 @@ module _ (regions cells : List ℕ) where
 
     pub writes-count : length ws ≡ changesOf (x .family)
     writes-count = written .count
-
--- ---- a CALL
-
-module _ (regions parameters arguments : List ℕ) (call : Call) (reply : List ℕ) where
-  replies-length : (k n : ℕ) → length (replyWritesFrom regions parameters arguments call reply k n) ≡ n
-  unfolding replyWritesFrom
-  replies-length k zero = refl
-  replies-length k (suc n) = ap suc (replies-length (k + 1) n)
-
-  -- "call one per reply row"
-  pub reply-writes-length : length (replyWrites regions parameters arguments call reply) ≡ replyRows reply
-  unfolding replyWrites
-  reply-writes-length = replies-length 0 (replyRows reply)

@@ -12,10 +12,10 @@ use Rattle.tables.specs.Lookup.{lookupOf, lookupAmong}
 use Rattle.tables.specs.Cells.{start}
 use Rattle.tables.specs.Tables.{Tables, tablesOf}
 use Rattle.tables.specs.declared.rows.Instruction.{Instruction}
-use Rattle.machine.specs.Cells.{readOf, sourceOf}
-use Rattle.machine.specs.Address.{addressOf, indexFits, indexedOf, namedOf, namesOf, writtenOf, addressesOf}
+use Rattle.operands.specs.Cells.{readOf, sourceOf, write, offsetOf}
+use Rattle.operands.specs.Address.{addressOf, indexFits, indexedOf, namedOf, namesOf, writtenOf, addressesOf}
 use Rattle.operators.specs.Operators.{integerResult, arithmeticResult, logicResult}
-use Rattle.machine.specs.Families.{write, one, offsetOf, putInto, arithmeticOf, logicOf, moveOf, exchangeOf, loadOf, familyOf}
+use Rattle.machine.specs.Families.{one, putInto, arithmeticOf, logicOf, moveOf, exchangeOf, loadOf, familyOf}
 use Rattle.machine.specs.Outcome.{plainOutcome, outcomeOf}
 use Rattle.journal.specs.declared.cells.Write.{Write}
 

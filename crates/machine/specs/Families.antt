@@ -7,32 +7,18 @@ use lib.Dec.{eqb, ltb}
 use Rattle.words.specs.Kind.{widthOf}
 use Rattle.words.specs.Width.{lowBits}
 use Rattle.tables.specs.Refusal.{noRule}
-use Rattle.tables.specs.Outcome.{Outcome, ok, refuse, _>>=_, _>>_, need}
+use Rattle.tables.specs.Outcome.{Outcome, ok, _>>=_, _>>_, need}
 use Rattle.tables.specs.declared.rows.Instruction.{Instruction}
-use Rattle.machine.specs.Cells.{cellKind, readOf, sourceOf}
-use Rattle.machine.specs.Address.{indexedOf}
+use Rattle.operands.specs.Cells.{cellKind, readOf, sourceOf, offsetOf, write}
+use Rattle.operands.specs.Address.{indexedOf}
 use Rattle.operators.specs.Operators.{integerLiteral, realLiteral, arithmeticKinds, arithmeticResult, comparisonKinds, comparisonResult, logicKinds, logicResult, unaryKinds, unaryResult}
-use Rattle.machine.specs.declared.cell.Value.{Value}
-use Rattle.machine.specs.declared.cell.Offset.{Offset}
-use Rattle.machine.specs.declared.cell.Offset.the-variants.{Word, NoRule}
+use Rattle.operands.specs.declared.cell.Value.{Value}
 use Rattle.journal.specs.declared.cells.Write.{Write}
-use Rattle.machine.specs.declared.address.NamedRegions.{NamedRegions}
-use Rattle.machine.specs.declared.address.Addresses.{Addresses}
-
-abbrev pub write : ℕ → ℕ → ℕ → Write
-write c k w = record { cell = c; kind = k; word = w }
+use Rattle.operands.specs.declared.address.NamedRegions.{NamedRegions}
+use Rattle.operands.specs.declared.address.Addresses.{Addresses}
 
 abbrev pub one : ℕ → ℕ → ℕ → List Write
 one c k w = write c k w ∷ []
-
--- ---- reads
-
--- a LOAD's or STORE's offset: "offset not INTEGER is 4"
-unfoldable pub offsetOf : List ℕ → ℕ → Outcome ℕ
-offsetOf cells c = do
-  v ← readOf cells c
-  need (eqb (v .kind) 1) noRule
-  ok (v .word)
 
 -- The source put into cell c. "Move, load, store copy kind and word. An integer literal takes the target cell's kind, keeping the low 1, 8 or 64 bits;
 -- no rule for REAL." "real literal elsewhere is 2". "in move and store a literal's target is read for its kind alone"
@@ -114,8 +100,3 @@ families regions cells x n a =
 -- by the family's number
 unfoldable pub familyOf : List ℕ → List ℕ → Instruction → NamedRegions → Addresses → Outcome (List Write)
 familyOf regions cells x n a = getD (families regions cells x n a) (x .family) noWrites
-
--- the answer `Offset` of the code
-abbrev pub offsetOutcome : Offset → Outcome ℕ
-offsetOutcome (Word w) = ok w
-offsetOutcome NoRule = refuse noRule

@@ -9,9 +9,9 @@ use Rattle.tables.specs.Outcome.{Outcome, ok, refuse, _>>=_, _>>_, need}
 use Rattle.tables.specs.Tables.{Tables}
 use Rattle.tables.specs.Rows.{instructionAt}
 use Rattle.tables.specs.declared.rows.Instruction.{Instruction}
-use Rattle.machine.specs.Address.{namesOf, addressesOf}
+use Rattle.operands.specs.Address.{namesOf, addressesOf}
 use Rattle.machine.specs.Families.{familyOf}
-use Rattle.machine.specs.Call.{callOutcome}
+use Rattle.reply.specs.Call.{callOutcome}
 use Rattle.journal.specs.declared.cells.Write.{Write}
 use Rattle.machine.specs.declared.outcome.RowOutcome.{RowOutcome}
 use Rattle.machine.specs.declared.outcome.RowOutcome.the-variants.{Refused, NoWrites, One, Two}

@@ -1,7 +1,3 @@
-// One row's outcome on the cells: a refusal, or the writes to make. Nothing is written here.
-pub mod address;
-pub mod call;
-pub mod cell;
+// One row's outcome on the cells, of a row that is no CALL: a refusal, or the writes to make. Nothing is written here.
 pub mod family;
 pub mod outcome;
-pub mod reply;

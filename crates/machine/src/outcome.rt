@@ -2,10 +2,10 @@
 ghost use mathlib.Core.Path.{_≡_};
 ghost use Rattle.machine.specs.Outcome.{plainOutcome, rowOutcome};
 ghost use Rattle.machine.specs.Reach.{Opened};
-use crate::address::Indices;
-use crate::address::Names;
-use crate::address::named_regions;
-use crate::address::written_addresses;
+use operands::address::Indices;
+use operands::address::Names;
+use operands::address::named_regions;
+use operands::address::written_addresses;
 use crate::family::family_outcome;
 use journal::cells::Write;
 use tables::instruction;

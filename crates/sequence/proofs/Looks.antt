@@ -13,7 +13,7 @@ use Rattle.tables.specs.Rows.{instructionRows}
 use Rattle.tables.proofs.Loaded.{passed}
 use Rattle.journal.specs.declared.cells.Write.{Write}
 use Rattle.machine.specs.Outcome.{outcomeAt}
-use Rattle.machine.proofs.Binds.{bound}
+use Rattle.operands.proofs.Binds.{bound}
 use Rattle.session.specs.Forward.{roomFor, stepLook}
 use Rattle.sequence.specs.Replay.{Machine, History, rowAt, cellsAt, usedAt, positionAt, replayLook}
 

@@ -16,8 +16,8 @@ use Rattle.tables.proofs.CellsLaws.{cells-given}
 use Rattle.type_check.specs.Check.{checkOf}
 use Rattle.type_check.specs.declared.error.Verdict.{Verdict}
 use Rattle.type_check.specs.declared.error.Verdict.the-variants as T
-use Rattle.machine.specs.Kinds.{zeros}
-use Rattle.machine.proofs.Binds.{bound}
+use Rattle.operands.specs.Kinds.{zeros}
+use Rattle.operands.proofs.Binds.{bound}
 use Rattle.session.specs.Prepare.{entriesOf, buffersFit, preparedOf}
 use Rattle.session.specs.Open.{start, programLook, Opening, opening, unlessRefused, unlessError, openTables}
 use Rattle.session.specs.declared.answer.OpenAnswer.the-variants.{Opened, Error}

@@ -26,9 +26,9 @@ use Rattle.type_check.specs.Check.{judgementOf, verdictOf, checkOf}
 use Rattle.journal.specs.Cells.{put, applied}
 use Rattle.journal.specs.Entries.{flatten, olds, log, closing, entered, journaled, entriesAt}
 use Rattle.journal.specs.Restore.{restored, undone, present}
-use Rattle.machine.specs.Kinds.{regionAmong, regionOf, declaredKind, zerosFrom, zeros}
-use Rattle.machine.specs.Cells.{readOf, sourceOf}
-use Rattle.machine.specs.Address.{addressOf, indexFits, indexedOf, namedOf, namesOf, writtenOf, addressesOf}
+use Rattle.operands.specs.Kinds.{regionAmong, regionOf, declaredKind, zerosFrom, zeros}
+use Rattle.operands.specs.Cells.{readOf, sourceOf, offsetOf}
+use Rattle.operands.specs.Address.{addressOf, indexFits, indexedOf, namedOf, namesOf, writtenOf, addressesOf}
 use Rattle.operators.specs.Operators.{integerResult, arithmeticResult, logicResult}
 use Rattle.machine.specs.Families as families
 use Rattle.machine.specs.Outcome.{plainOutcome, outcomeOf, outcomeAt}
@@ -97,7 +97,7 @@ unfolding fitsKind widthOf lowBits signed wordOf integerIsNegative integerDivide
     exchangeRule loadRule loadKinds storeRule storeSource frameRule treeVerdict nodeVerdict numberVerdict
     put applied flatten olds log closing entered journaled entriesAt restored undone present
     zeros zerosFrom declaredKind regionOf regionAmong outcomeAt outcomeOf plainOutcome namesOf namedOf addressesOf writtenOf indexedOf indexFits addressOf
-    readOf sourceOf families.familyOf families.offsetOf families.putInto families.arithmeticOf families.logicOf families.moveOf families.exchangeOf
+    readOf sourceOf offsetOf families.familyOf families.putInto families.arithmeticOf families.logicOf families.moveOf families.exchangeOf
     families.loadOf arithmeticResult integerResult logicResult
     openTables preparedOf buffersFit programLook noOther callsLook callLook forwardTables forwardLook rowLook stepLook roomFor positionFits leaves
     backTables backLook takeBackLook journalLook backLeaves answers end

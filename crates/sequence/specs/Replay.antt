@@ -10,7 +10,7 @@ use Rattle.tables.specs.Rows.{instructionRows}
 use Rattle.journal.specs.declared.cells.Write.{Write}
 use Rattle.journal.specs.declared.position.Position.{Position}
 use Rattle.journal.specs.Cells.{applied}
-use Rattle.machine.specs.Kinds as kinds
+use Rattle.operands.specs.Kinds as kinds
 use Rattle.machine.specs.Outcome.{outcomeAt}
 use Rattle.session.specs.Prepare.{entriesOf}
 use Rattle.session.specs.declared.answer.StepAnswer.{StepAnswer}

@@ -10,7 +10,7 @@ use Rattle.type_check.specs.Check.{checkOf}
 use Rattle.type_check.specs.declared.error.Verdict.{Verdict}
 use Rattle.type_check.specs.declared.error.Verdict.the-variants as T
 use Rattle.extern_call.proofs.CallLaws.{loaded-ranges}
-use Rattle.machine.specs.Kinds.{zeros}
+use Rattle.operands.specs.Kinds.{zeros}
 use Rattle.session.specs.Prepare.{preparedOf, Ready}
 use Rattle.session.specs.Open.{CallsInside, programLook, start, Opening, opening, unlessRefused, unlessError, openCells, Openable, openTables}
 use Rattle.session.specs.declared.answer.OpenAnswer.{OpenAnswer}

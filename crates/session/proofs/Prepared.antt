@@ -14,7 +14,7 @@ use Rattle.tables.specs.Load.{loadOf}
 use Rattle.tables.specs.Cells.{cellCount, cellsOf}
 use Rattle.tables.proofs.Loaded.{both, passed}
 use Rattle.tables.proofs.CellsLaws.{cells-given}
-use Rattle.machine.proofs.Binds.{bound}
+use Rattle.operands.proofs.Binds.{bound}
 use Rattle.session.specs.Prepare.{entriesOf, buffersFit, preparedOf, Ready}
 
 -- memory and journal, so many words each, behind 4

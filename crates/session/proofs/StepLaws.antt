@@ -21,8 +21,9 @@ use Rattle.journal.specs.Position.{advanced}
 use Rattle.journal.specs.Cells.{applied}
 use Rattle.journal.specs.Entries.{journaled}
 use Rattle.machine.specs.Outcome.{outcomeOf, outcomeAt}
-use Rattle.machine.specs.Reach.{There, Layout, Opened}
-use Rattle.machine.proofs.Reaches.{in-cells}
+use Rattle.operands.specs.Reach.{There, Layout}
+use Rattle.machine.specs.Reach.{Opened}
+use Rattle.operands.proofs.Reaches.{in-cells}
 use Rattle.machine.proofs.WritesLaws.{Within}
 use Rattle.session.specs.Prepare.{entriesOf, Ready}
 use Rattle.session.specs.Forward.{rowOf, positionFits, roomFor, stepLook, rowLook, left, stepped}

@@ -13,8 +13,8 @@ use Rattle.tables.proofs.CellsLaws.{start-next, start-within}
 use Rattle.journal.specs.Cells.{held, put}
 use Rattle.journal.specs.declared.cells.Write.{Write}
 use Rattle.journal.proofs.CellsLaws.{held-same, held-other}
-use Rattle.machine.specs.Kinds.{declaredKind, zeros}
-use Rattle.machine.proofs.KindsLaws.{kind-at, length-zeros, zeros-at}
+use Rattle.operands.specs.Kinds.{declaredKind, zeros}
+use Rattle.operands.proofs.KindsLaws.{kind-at, length-zeros, zeros-at}
 use Rattle.session.specs.Zero.{zeroCell, Zeroed, ZeroedTo}
 
 module _ (regions : List ℕ) where

@@ -17,8 +17,8 @@ use Rattle.type_check.specs.declared.error.Verdict.{Verdict}
 use Rattle.type_check.specs.declared.error.Verdict.the-variants as T
 use Rattle.extern_call.specs.Call.{CallRanges, resolvesCall}
 use Rattle.journal.specs.declared.position.Position.{Position}
-use Rattle.machine.specs.Kinds.{zeros}
-use Rattle.machine.specs.Reach.{Layout}
+use Rattle.operands.specs.Kinds.{zeros}
+use Rattle.operands.specs.Reach.{Layout}
 use Rattle.machine.specs.Outcome.{isCall, isOther}
 use Rattle.session.specs.Prepare.{preparedOf}
 use Rattle.session.specs.declared.answer.OpenAnswer.{OpenAnswer}

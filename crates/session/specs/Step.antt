@@ -14,8 +14,9 @@ use Rattle.extern_call.specs.Call.{CallRanges}
 use Rattle.extern_call.specs.declared.call.Call.{Call}
 use Rattle.journal.specs.declared.cells.Write.{Write}
 use Rattle.journal.specs.declared.position.Position.{Position}
-use Rattle.machine.specs.Call.{replyRows}
-use Rattle.machine.specs.Reach.{Layout, Replied}
+use Rattle.reply.specs.Call.{replyRows}
+use Rattle.operands.specs.Reach.{Layout}
+use Rattle.reply.specs.Reach.{Replied}
 use Rattle.session.specs.Prepare.{entriesOf}
 use Rattle.session.specs.Forward.{rowOf, positionFits, roomFor, Left, stepped}
 use Rattle.session.specs.declared.step.NextRow.{NextRow}

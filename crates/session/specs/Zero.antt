@@ -6,8 +6,8 @@ use Rattle.tables.specs.Rows.{regionRows}
 use Rattle.tables.specs.Cells.{start}
 use Rattle.journal.specs.Cells.{held}
 use Rattle.journal.specs.declared.cells.Write.{Write}
-use Rattle.machine.specs.Kinds.{declaredKind}
-use Rattle.machine.specs.Reach.{Layout}
+use Rattle.operands.specs.Kinds.{declaredKind}
+use Rattle.operands.specs.Reach.{Layout}
 
 -- "Open zeroes each cell with its declared kind": cell c
 abbrev pub zeroCell : List ℕ → ℕ → Write

@@ -2,8 +2,8 @@
 ghost use mathlib.Core.Path.{_≡_};
 ghost use Prim.Native.Nat.{_+_, _<_};
 ghost use Rattle.tables.specs.Rows.{regionRows};
-ghost use Rattle.machine.specs.Kinds.{zeros};
-ghost use Rattle.machine.specs.Reach.{Layout};
+ghost use Rattle.operands.specs.Kinds.{zeros};
+ghost use Rattle.operands.specs.Reach.{Layout};
 ghost use Rattle.session.specs.Zero.{ZeroedTo};
 use journal::cells::Write;
 use journal::cells::put_cell;

@@ -28,13 +28,13 @@ use Rattle.extern_call.proofs.ResolvedLaws.{resolved-facts, mutable-written}
 use Rattle.extern_call.proofs.ResolvesLaws.{Resolving, below-paired}
 use Rattle.journal.specs.declared.cells.Write.{Write}
 use Rattle.journal.specs.Each.{Each, none, also}
-use Rattle.machine.specs.Address.{addressOf}
-use Rattle.machine.specs.Families.{write}
-use Rattle.machine.specs.Call as M
-use Rattle.machine.specs.declared.reply.Reply.{Reply}
-use Rattle.machine.proofs.Binds.{bound}
-use Rattle.machine.proofs.AddressLaws.{index-below}
-use Rattle.machine.proofs.ReplyLaws.{Judged, judged-ok, scalar-below, replied-argument}
+use Rattle.operands.specs.Address.{addressOf}
+use Rattle.operands.specs.Cells.{write}
+use Rattle.reply.specs.Call as M
+use Rattle.reply.specs.declared.reply.Reply.{Reply}
+use Rattle.operands.proofs.Binds.{bound}
+use Rattle.operands.proofs.AddressLaws.{index-below}
+use Rattle.reply.proofs.ReplyLaws.{Judged, judged-ok, scalar-below, replied-argument}
 use Rattle.soundness.specs.Sound.{writeSet, GoodWrite}
 use Rattle.soundness.proofs.Regions.{KindsAllowed, Region, region-of, cell-of}
 use Rattle.soundness.proofs.Values.{Kept, kept}

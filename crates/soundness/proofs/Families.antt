@@ -8,10 +8,10 @@ use Rattle.words.specs.Kind.{widthOf}
 use Rattle.words.specs.Fits.{fits-of}
 use Rattle.tables.specs.declared.rows.Instruction.{Instruction}
 use Rattle.journal.specs.Each.{also}
-use Rattle.machine.specs.Cells.{sourceOf}
+use Rattle.operands.specs.Cells.{sourceOf}
 use Rattle.machine.specs.Families as F
-use Rattle.machine.specs.declared.address.NamedRegions.{NamedRegions}
-use Rattle.machine.specs.declared.address.Addresses.{Addresses}
+use Rattle.operands.specs.declared.address.NamedRegions.{NamedRegions}
+use Rattle.operands.specs.declared.address.Addresses.{Addresses}
 use Rattle.machine.proofs.Ends.{Ends, Ruled, fine, bind, ruled}
 use Rattle.machine.proofs.WritesLaws.{single}
 use Rattle.soundness.specs.Sound.{Typed}

@@ -10,10 +10,10 @@ use borrow.Author.Tests.{eqb-true, ne-eqb, le-ltb}
 use Rattle.tables.specs.Instruction.{formAllowed}
 use Rattle.tables.specs.declared.rows.Instruction.{Instruction}
 use Rattle.type_check.specs.Codes.{firstCode, secondCode, referenceCode, operandCode, sourceCode}
-use Rattle.machine.specs.Address.{namesFirst, indexesFirst, namesSecond, indexesSecond, namesSource, namesOf, addressesOf}
-use Rattle.machine.specs.declared.address.NamedRegions.{NamedRegions}
-use Rattle.machine.specs.declared.address.Addresses.{Addresses}
-use Rattle.machine.proofs.Reaches.{first-named, second-named}
+use Rattle.operands.specs.Address.{namesFirst, indexesFirst, namesSecond, indexesSecond, namesSource, namesOf, addressesOf}
+use Rattle.operands.specs.declared.address.NamedRegions.{NamedRegions}
+use Rattle.operands.specs.declared.address.Addresses.{Addresses}
+use Rattle.operands.proofs.Reaches.{first-named, second-named}
 use Rattle.machine.proofs.Ends.{Ends, Ruled, fine, bind}
 use Rattle.soundness.proofs.Regions.{KindsAllowed, Region, Cell, named-ends, written-ends}
 

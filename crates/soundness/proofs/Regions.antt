@@ -15,10 +15,10 @@ use Rattle.tables.specs.declared.lookup.Found.the-variants.{At, Nothing}
 use Rattle.tables.proofs.LookupLaws.{lookup-within}
 use Rattle.type_check.specs.Codes.{codeOf}
 use Rattle.type_check.proofs.CodeLaws.{code-kind, code-none}
-use Rattle.machine.specs.Kinds.{regionAmong, regionOf, declaredKind}
-use Rattle.machine.specs.Address.{addressOf, indexFits, indexedOf, foundRegion, namedOf, writtenOf}
-use Rattle.machine.proofs.AddressLaws.{address-within, index-below}
-use Rattle.machine.proofs.KindsLaws as kinds
+use Rattle.operands.specs.Kinds.{regionAmong, regionOf, declaredKind}
+use Rattle.operands.specs.Address.{addressOf, indexFits, indexedOf, foundRegion, namedOf, writtenOf}
+use Rattle.operands.proofs.AddressLaws.{address-within, index-below}
+use Rattle.operands.proofs.KindsLaws as kinds
 use Rattle.machine.proofs.Ends.{Ends, fine, tested, weaken}
 
 -- ---- the region of a cell

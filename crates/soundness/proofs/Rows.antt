@@ -15,12 +15,12 @@ use Rattle.type_check.specs.Judgement.{pass}
 use Rattle.type_check.specs.Rule.{ruleOf}
 use Rattle.type_check.specs.Codes.{firstCode, secondCode, referenceCode, operandCode, rowRule}
 use Rattle.journal.specs.Each.{none}
-use Rattle.machine.specs.Address.{namesSource}
-use Rattle.machine.specs.Cells.{sourceOf}
+use Rattle.operands.specs.Address.{namesSource}
+use Rattle.operands.specs.Cells.{sourceOf}
 use Rattle.machine.specs.Families.{familyOf}
 use Rattle.machine.specs.Outcome.{isOther, plainOutcome}
-use Rattle.machine.specs.declared.address.NamedRegions.{NamedRegions}
-use Rattle.machine.specs.declared.address.Addresses.{Addresses}
+use Rattle.operands.specs.declared.address.NamedRegions.{NamedRegions}
+use Rattle.operands.specs.declared.address.Addresses.{Addresses}
 use Rattle.machine.proofs.Ends.{Ends, Ruled, fine, bind, tested}
 use Rattle.soundness.specs.Sound.{Typed}
 use Rattle.soundness.proofs.Regions.{KindsAllowed}

@@ -16,11 +16,11 @@ use Rattle.tables.specs.declared.rows.Instruction.{Instruction}
 use Rattle.type_check.specs.Codes.{codeOf, operandCode}
 use Rattle.journal.specs.declared.cells.Write.{Write}
 use Rattle.journal.specs.Each.{Each}
-use Rattle.machine.specs.Address.{namesSource}
-use Rattle.machine.specs.Cells.{cellKind, readOf, sourceOf}
+use Rattle.operands.specs.Address.{namesSource}
+use Rattle.operands.specs.Cells.{cellKind, readOf, sourceOf, offsetOf, write}
 use Rattle.operators.specs.Operators.{integerLiteral, realLiteral, comparisonKinds}
 use Rattle.machine.specs.Families as F
-use Rattle.machine.specs.declared.cell.Value.{Value}
+use Rattle.operands.specs.declared.cell.Value.{Value}
 use Rattle.machine.proofs.Ends.{Ends, Ruled, fine, bind, ruled}
 use Rattle.machine.proofs.WritesLaws.{single}
 use Rattle.soundness.specs.Sound.{Fits, Typed}
@@ -38,11 +38,11 @@ pub record Kept (regions : List ℕ) (w : Write) : Type 0 where
   pub there : w .cell < cellCount regions
   pub fits : Fits regions w
 
-pub kept : {regions : List ℕ} {k c : ℕ} → Cell regions k c → {k′ w : ℕ} → k′ ≡ k → fitsKind k w ≡ true → Kept regions (F.write c k′ w)
+pub kept : {regions : List ℕ} {k c : ℕ} → Cell regions k c → {k′ w : ℕ} → k′ ≡ k → fitsKind k w ≡ true → Kept regions (write c k′ w)
 kept t e f = record { there = t .there; fits = record { kind = e ∙ sym (t .is); word = rw e f } }
 
 -- the same by the word's bound
-pub kept-below : {regions : List ℕ} {k c : ℕ} → Cell regions k c → {k′ w : ℕ} → k′ ≡ k → w < 2 ^ widthOf k → Kept regions (F.write c k′ w)
+pub kept-below : {regions : List ℕ} {k c : ℕ} → Cell regions k c → {k′ w : ℕ} → k′ ≡ k → w < 2 ^ widthOf k → Kept regions (write c k′ w)
 kept-below {regions} {k} t {k′} {w} e h = kept t e (fits-of k w (t .small) h)
 
 -- no 18, and writes that keep the kinds
@@ -91,6 +91,6 @@ module _ {regions cells : List ℕ} (typed : Typed regions cells) where
           ruled e (fine (single (kept-below t {w = v .word} (sym q) (rw q l))))
       at false false ea eb e = let q = eqb-true k s e in fine (single (kept-below t {w = v .word} (sym q) (rw q (h .below))))
 
-  pub offset-ends : {c : ℕ} → Cell regions 1 c → Ends Ruled (λ i. Unit {0}) (F.offsetOf cells c)
-  unfolding F.offsetOf
+  pub offset-ends : {c : ℕ} → Cell regions 1 c → Ends Ruled (λ i. Unit {0}) (offsetOf cells c)
+  unfolding offsetOf
   offset-ends t = bind (read-ends t) (λ v h. ruled (eq-eqb (v .kind) 1 (h .kind-is)) (fine tt))

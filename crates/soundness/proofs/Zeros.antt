@@ -8,8 +8,8 @@ use Rattle.words.specs.Kind.{widthOf}
 use Rattle.words.specs.Fits.{fits-of}
 use Rattle.tables.specs.Rows.{regionKind}
 use Rattle.tables.specs.Cells.{cellCount}
-use Rattle.machine.specs.Kinds.{regionOf, declaredKind, zeros}
-use Rattle.machine.proofs.KindsLaws.{length-zeros, zeros-at}
+use Rattle.operands.specs.Kinds.{regionOf, declaredKind, zeros}
+use Rattle.operands.proofs.KindsLaws.{length-zeros, zeros-at}
 use Rattle.soundness.specs.Sound.{Fits, Typed}
 use Rattle.soundness.proofs.Regions.{KindsAllowed, region-below}
 

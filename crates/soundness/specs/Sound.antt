@@ -21,7 +21,7 @@ use Rattle.extern_call.specs.declared.access.Access.the-variants.{Write}
 use Rattle.journal.specs.declared.cells.Write as journal
 use Rattle.journal.specs.Cells.{held}
 use Rattle.journal.specs.Each.{Each}
-use Rattle.machine.specs.Kinds.{regionOf, declaredKind, zeros}
+use Rattle.operands.specs.Kinds.{regionOf, declaredKind, zeros}
 use Rattle.machine.specs.Outcome.{isCall, outcomeAt}
 
 -- ---- what it rests on

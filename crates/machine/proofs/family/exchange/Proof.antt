@@ -1,6 +1,6 @@
 use borrow.Author.Needs.{needs}
 use Rattle.tables.specs.Outcome.{_>>=_, seen}
-use Rattle.machine.specs.Cells.{readOutcome}
+use Rattle.operands.specs.Cells.{readOutcome}
 use Rattle.machine.specs.Families.{exchangeOf}
 use Rattle.machine.proofs.family.exchange.Statement.{statement}
 use Rattle.machine.proofs.family.exchange.Tie as tie

@@ -1,7 +1,7 @@
 use borrow.Author.Needs.{needs}
 use borrow.Author.Tests.{eq-eqb, ne-eqb, lt-ltb, le-ltb}
 use Rattle.tables.specs.Outcome.{_>>_, need}
-use Rattle.machine.specs.Cells.{cellKind}
+use Rattle.operands.specs.Cells.{cellKind}
 use Rattle.machine.specs.Families.{putInto}
 use Rattle.machine.proofs.family.put_into.Statement.{statement}
 use Rattle.machine.proofs.family.put_into.Tie as tie

@@ -2,7 +2,7 @@ use borrow.Author.Needs.{needs}
 use mathlib.Core.Path.{sym, _∙_}
 use borrow.Author.Tests.{not-true, not-false}
 use Rattle.tables.specs.Outcome.{_>>=_, _>>_, need, seen}
-use Rattle.machine.specs.Cells.{readOutcome}
+use Rattle.operands.specs.Cells.{readOutcome}
 use Rattle.machine.specs.Families.{unaryOf}
 use Rattle.machine.proofs.family.unary.Statement.{statement}
 use Rattle.machine.proofs.family.unary.Tie as tie

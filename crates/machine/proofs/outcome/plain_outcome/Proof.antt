@@ -2,7 +2,7 @@ use borrow.Author.Needs.{needs}
 use borrow.Author.Tests.{eq-eqb, ne-eqb}
 use Rattle.tables.specs.Outcome.{_>>=_, _>>_, need, seen}
 use lib.ListN.{length}
-use Rattle.machine.specs.Address.{namesOutcome, indicesOutcome}
+use Rattle.operands.specs.Address.{namesOutcome, indicesOutcome}
 use Rattle.machine.specs.Outcome.{plainOutcome}
 use Rattle.machine.proofs.Reaches.{opened-named, opened-placed}
 use Rattle.machine.proofs.outcome.plain_outcome.Statement.{statement}

@@ -1,6 +1,6 @@
 use Rattle.tables.specs.Outcome.{_>>=_, seen}
 use Rattle.extern_call.specs.Call.{callAnswer}
-use Rattle.machine.specs.Call.{callOutcome}
+use Rattle.reply.specs.Call.{callOutcome}
 use Rattle.session.specs.Forward.{stepped}
 use Rattle.session.specs.Step.{rowLeaves}
 use Rattle.session.proofs.CallLaws.{judged-replying}

@@ -1,8 +1,8 @@
 use mathlib.Core.Path.{sym, _∙_}
 use native.Mathlib.Omega.{arith}
 use borrow.Author.Tests.{not-true, not-false}
-use Rattle.machine.specs.Call.{replyRows, replyWrites}
-use Rattle.machine.proofs.WritesLaws.{reply-writes-length}
+use Rattle.reply.specs.Call.{replyRows, replyWrites}
+use Rattle.reply.proofs.ReplyLaws.{reply-writes-length}
 use Rattle.session.proofs.StepLaws.{room-words, full, roomy}
 use borrow.Author.Needs.{needs}
 use Rattle.session.proofs.call_step.reply_step.Statement.{statement}

@@ -3,7 +3,7 @@ use mathlib.Core.Path.{_≡_, refl, _∙_}
 use native.Mathlib.Omega.{arith}
 use lib.ListN.{length}
 use Rattle.journal.proofs.WritingLaws.{Writing, writing-start, writing-turn, writing-end}
-use Rattle.machine.specs.Call.{replyWrites, replyWritesFrom}
+use Rattle.reply.specs.Call.{replyWrites, replyWritesFrom}
 use Rattle.session.proofs.CallLaws.{replies-start, replies-turn, replies-none}
 use Rattle.session.proofs.call_step.write_reply.Statement.{statement}
 use Rattle.session.proofs.call_step.write_reply.Tie as tie

@@ -1,0 +1,67 @@
+-- The region that a cell lies in, its declared kind, and the cells that open leaves. Assumes nothing.
+use Prim.Native.Nat.{ℕ, zero, suc, _+_, _*_, _<_, _≤_}
+use mathlib.Core.List.{List, [], _∷_}
+use mathlib.Core.Path.{_≡_, refl, ap, _∙_}
+use native.Mathlib.Omega.{arith}
+use native.Mathlib.Decide.{ℕ-discrete}
+use lib.ListN.{length, getD}
+use lib.Dec.{ltb}
+use borrow.Author.Tests.{lt-ltb, le-ltb}
+use Rattle.tables.specs.Rows.{regionRows, regionKind, regionLength}
+use Rattle.tables.specs.Cells.{start, cellCount}
+use Rattle.tables.proofs.CellsLaws.{start-next, start-mono}
+use Rattle.journal.specs.Cells.{held}
+use Rattle.journal.specs.declared.cells.Write.{Write}
+use Rattle.operands.specs.Kinds.{regionAmong, regionOf, declaredKind, zerosFrom, zeros}
+
+module _ (regions : List ℕ) where
+  region-among : (n r i : ℕ) → r < n → i < regionLength regions r → regionAmong regions n (start regions r + i) ≡ r
+  unfolding regionAmong
+  region-among zero r i h l = absurd (omega arith)
+  region-among (suc n) r i h l = at (ℕ-discrete r n) (λ q. region-among n r i q l)
+    where
+      at : Dec (r ≡ n) → (r < n → regionAmong regions n (start regions r + i) ≡ r) → regionAmong regions (suc n) (start regions r + i) ≡ r
+      at (yes e) ih = rw (e, le-ltb (start regions n + i) (start regions n) (omega arith))
+      at (no ne) ih =
+          let k : start regions (r + 1) ≤ start regions n = start-mono regions (r + 1) n (omega arith) in
+          rw (lt-ltb (start regions r + i) (start regions n) (omega (arith, start-next regions r))) (ih (omega arith))
+
+  -- the cell at an index of a region lies in that region
+  pub region-of : (r i : ℕ) → r < regionRows regions → i < regionLength regions r → regionOf regions (start regions r + i) ≡ r
+  unfolding regionOf
+  region-of r i h l = region-among (regionRows regions) r i h l
+
+  -- and has its kind
+  pub kind-at : (r i : ℕ) → r < regionRows regions → i < regionLength regions r → declaredKind regions (start regions r + i) ≡ regionKind regions r
+  unfolding declaredKind
+  kind-at r i h l = ap (regionKind regions) (region-of r i h l)
+
+  -- ---- zero cells
+
+  length-from : (n c : ℕ) → length (zerosFrom regions c n) ≡ 2 * n
+  unfolding zerosFrom
+  length-from zero c = refl
+  length-from (suc n) c = let e = length-from n (c + 1) in omega arith
+
+  pub length-zeros : length (zeros regions) ≡ 2 * cellCount regions
+  unfolding zeros
+  length-zeros = length-from (cellCount regions) 0
+
+  words-from : (n c k : ℕ) → k < n
+      → (getD (zerosFrom regions c n) (2 * k) 0 ≡ declaredKind regions (c + k)) × (getD (zerosFrom regions c n) (2 * k + 1) 0 ≡ 0)
+  unfolding zerosFrom
+  words-from zero c k h = absurd (omega arith)
+  words-from (suc n) c zero h = let e : c ≡ c + 0 = omega arith in rw (← e) (refl, refl)
+  words-from (suc n) c (suc k) h =
+      let e₀ : 2 * suc k ≡ suc (suc (2 * k)) = omega arith in
+      let e₁ : 2 * suc k + 1 ≡ suc (suc (2 * k + 1)) = omega arith in
+      let e₂ : c + suc k ≡ c + 1 + k = omega arith in
+      rw (e₁, e₀, e₂) (words-from n (c + 1) k (omega arith))
+
+  -- each cell is zero, of its declared kind
+  pub zeros-at : (c : ℕ) → c < cellCount regions → held (zeros regions) c ≡ record { cell = c; kind = declaredKind regions c; word = 0 }
+  unfolding zeros
+  zeros-at c h =
+      let e : 0 + c ≡ c = omega arith in
+      let (k, w) = words-from (cellCount regions) 0 c h in
+      λ t. record { cell = c; kind = (k ∙ ap (declaredKind regions) e) t; word = w t }

@@ -1,0 +1,53 @@
+use borrow.Author.Needs.{needs}
+use mathlib.Core.Path.{sym, _∙_}
+use Rattle.tables.specs.Outcome.{_>>_, need}
+use Rattle.operands.specs.Cells.{readOf}
+use Rattle.operands.proofs.cell.read_cell.Statement.{statement}
+use Rattle.operands.proofs.cell.read_cell.Tie as tie
+
+mul-kind : tie.Need-mul-kind
+mul-kind c = search needs
+
+mul-kind-2 : tie.Need-mul-kind-2
+mul-kind-2 c = search needs
+
+shared-slice-read-kind : tie.Need-shared-slice-read-kind
+shared-slice-read-kind c = search needs
+
+mul-word : tie.Need-mul-word
+mul-word c = search needs
+
+add-word : tie.Need-add-word
+add-word c = search needs
+
+mul-word-2 : tie.Need-mul-word-2
+mul-word-2 c = search needs
+
+shared-slice-read-word : tie.Need-shared-slice-read-word
+shared-slice-read-word c = search needs
+
+fits-requires : tie.Need-fits-requires
+fits-requires c κs = search needs
+
+returns : tie.Need-returns
+unfolding readOf _>>_ need
+returns c = rw (sym (c .before .fits2 .ensures) ∙ c .if1 .taken)
+
+returns-2 : tie.Need-returns-2
+unfolding readOf _>>_ need
+returns-2 c = rw (sym (c .before .fits2 .ensures) ∙ c .if1 .left)
+
+pub read-cell-spec : {M : Type 1} → statement M
+read-cell-spec =
+    tie.close
+    (tie.spec
+    mul-kind
+    mul-kind-2
+    shared-slice-read-kind
+    mul-word
+    add-word
+    mul-word-2
+    shared-slice-read-word
+    fits-requires
+    returns
+    returns-2)

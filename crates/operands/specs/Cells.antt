@@ -1,0 +1,58 @@
+-- The operands that a row reads: cells and literals; and what it writes. 01, Machine: "A cell is kind, word."
+use Prim.Native.Nat.{ℕ, _+_, _*_}
+use mathlib.Core.Bool.{cond}
+use mathlib.Core.List.{List}
+use lib.ListN.{getD}
+use lib.Dec.{eqb}
+use Rattle.words.specs.Kind.{fitsKind}
+use Rattle.tables.specs.Refusal.{noRule}
+use Rattle.tables.specs.Outcome.{Outcome, ok, refuse, _>>=_, _>>_, need}
+use Rattle.tables.specs.declared.rows.Instruction.{Instruction}
+use Rattle.operators.specs.Operators.{integerLiteral, realLiteral}
+use Rattle.journal.specs.declared.cells.Write.{Write}
+use Rattle.operands.specs.declared.cell.Value.{Value}
+use Rattle.operands.specs.declared.cell.Read.{Read}
+use Rattle.operands.specs.declared.cell.Read.the-variants as R
+use Rattle.operands.specs.declared.cell.Offset.{Offset}
+use Rattle.operands.specs.declared.cell.Offset.the-variants as O
+
+abbrev pub cellKind : List ℕ → ℕ → ℕ
+cellKind cells c = getD cells (2 * c) 0
+
+abbrev pub cellWord : List ℕ → ℕ → ℕ
+cellWord cells c = getD cells (2 * c + 1) 0
+
+abbrev pub cellAt : List ℕ → ℕ → Value
+cellAt cells c = record { kind = cellKind cells c; word = cellWord cells c }
+
+-- "A step reads kinds from cells, never declarations; a read cell with kind above 3 or a word beyond its kind (BIT 1, OCTET 255) has no rule"
+unfoldable pub readOf : List ℕ → ℕ → Outcome Value
+readOf cells c = need (fitsKind (cellKind cells c) (cellWord cells c)) noRule >> ok (cellAt cells c)
+
+-- "source form (0 integer literal, 1 real literal, 2 reference ..)": c is a reference's cell
+unfoldable pub sourceOf : List ℕ → Instruction → ℕ → Outcome Value
+sourceOf cells x c =
+    cond (eqb (x .«source_form») 0) (ok (record { kind = integerLiteral; word = x .«source_first» }))
+    (cond (eqb (x .«source_form») 1) (ok (record { kind = realLiteral; word = x .«source_first» }))
+    (readOf cells c))
+
+-- a LOAD's or STORE's offset: "offset not INTEGER is 4"
+unfoldable pub offsetOf : List ℕ → ℕ → Outcome ℕ
+offsetOf cells c = do
+  v ← readOf cells c
+  need (eqb (v .kind) 1) noRule
+  ok (v .word)
+
+-- what a row writes to cell c
+abbrev pub write : ℕ → ℕ → ℕ → Write
+write c k w = record { cell = c; kind = k; word = w }
+
+-- the answer `Read` of the code
+abbrev pub readOutcome : Read → Outcome Value
+readOutcome (R.Holds v) = ok v
+readOutcome R.NoRule = refuse noRule
+
+-- the answer `Offset` of the code
+abbrev pub offsetOutcome : Offset → Outcome ℕ
+offsetOutcome (O.Word w) = ok w
+offsetOutcome O.NoRule = refuse noRule
