@@ -4,6 +4,8 @@ ghost use Rattle.machine.specs.Families.{putInto, arithmeticOf, comparis
 ghost use Rattle.machine.specs.Outcome.{rowOutcome};
 ghost use Rattle.operands.specs.Reach.{There};
 ghost use Rattle.machine.specs.Reach.{TargetAndSource, Compared, Exchanged, Loading, Storing, Placed};
+use crate::outcome::RowOutcome;
+use journal::cells::Write;
 use operands::address::Addresses;
 use operands::address::Indexed;
 use operands::address::NamedRegions;
@@ -14,8 +16,6 @@ use operands::cell::Value;
 use operands::cell::read_cell;
 use operands::cell::read_offset;
 use operands::cell::read_source;
-use crate::outcome::RowOutcome;
-use journal::cells::Write;
 use operators::INTEGER_LITERAL;
 use operators::REAL_LITERAL;
 use tables::instruction;

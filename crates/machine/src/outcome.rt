@@ -2,12 +2,12 @@
 ghost use mathlib.Core.Path.{_≡_};
 ghost use Rattle.machine.specs.Outcome.{plainOutcome, rowOutcome};
 ghost use Rattle.machine.specs.Reach.{Opened};
+use crate::family::family_outcome;
+use journal::cells::Write;
 use operands::address::Indices;
 use operands::address::Names;
 use operands::address::named_regions;
 use operands::address::written_addresses;
-use crate::family::family_outcome;
-use journal::cells::Write;
 use tables::instruction;
 use tables::refusal::INDEX_PAST_LENGTH;
 use tables::refusal::NO_RULE;
