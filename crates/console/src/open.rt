@@ -2,10 +2,10 @@
 ghost use mathlib.Core.Path.{_≡_};
 ghost use lib.ListN.{length};
 ghost use Rattle.tables.specs.Tables.{tablesOf};
-ghost use Rattle.session.specs.Open.{opening, openTables};
+ghost use Rattle.opening.specs.Open.{opening, openTables};
 use journal::cells::CELL_WIDTH;
+use opening::open::open_cells;
 use session::answer::OpenAnswer;
-use session::open::open_cells;
 use session::prepare::Prepared;
 use session::prepare::prepare;
 

@@ -19,7 +19,7 @@ use Rattle.type_check.specs.declared.error.Verdict.the-variants as T
 use Rattle.operands.specs.Kinds.{zeros}
 use Rattle.operands.proofs.Binds.{bound}
 use Rattle.session.specs.Prepare.{entriesOf, buffersFit, preparedOf}
-use Rattle.session.specs.Open.{start, programLook, Opening, opening, unlessRefused, unlessError, openTables}
+use Rattle.opening.specs.Open.{start, programLook, Opening, opening, unlessRefused, unlessError, openTables}
 use Rattle.session.specs.declared.answer.OpenAnswer.the-variants.{Opened, Error}
 
 -- ---- 1, 2, 3, 10, 4

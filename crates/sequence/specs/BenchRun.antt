@@ -33,7 +33,7 @@ use Rattle.operators.specs.Operators.{integerResult, arithmeticResult, logicRes
 use Rattle.machine.specs.Families as families
 use Rattle.machine.specs.Outcome.{plainOutcome, outcomeOf, outcomeAt}
 use Rattle.session.specs.Prepare.{buffersFit, preparedOf}
-use Rattle.session.specs.Open.{noOther, callLook, callsLook, programLook, openTables}
+use Rattle.opening.specs.Open.{noOther, callLook, callsLook, programLook, openTables}
 use Rattle.session.specs.Forward.{positionFits, roomFor, stepLook, rowLook, forwardLook, leaves, forwardTables}
 use Rattle.session.specs.Back.{journalLook, takeBackLook, backLook, backLeaves, backTables}
 use Rattle.session.specs.declared.answer.OpenAnswer.{OpenAnswer}

@@ -14,7 +14,7 @@ use Rattle.journal.specs.Entries.{entriesAt}
 use Rattle.journal.specs.Restore.{present}
 use Rattle.session.specs.Prepare.{entriesOf}
 use Rattle.session.specs.Forward.{positionFits}
-use Rattle.session.proofs.StepLaws.{fits-used}
+use Rattle.session.proofs.PositionLaws.{fits-used}
 use Rattle.session.specs.Back.{lastChanges, firstEntry, journalLook, takeBackLook}
 
 -- a step with so many changes that can be taken back

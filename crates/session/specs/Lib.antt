@@ -1,10 +1,7 @@
--- Open, forward and back on lent memory and journal: Prepare (the looks that all three begin with), Open, Forward, Back, each with what it leaves;
--- Zero, Step, TakeBack: what the functions on the cells ask for and answer.
+-- A session on lent memory and journal: Prepare (the looks that open, forward and back begin with), Forward and Back, each with what it leaves,
+-- TakeBack (how back's looks answer in the code), Answer (01's numbers).
 pub mod Answer
 pub mod Prepare
-pub mod Open
-pub mod Zero
 pub mod Forward
 pub mod Back
-pub mod Step
 pub mod TakeBack

@@ -1,11 +1,5 @@
-// A session on lent memory and journal: what open, forward and back look at, and what they leave.
+// A session on lent memory and journal: the looks that its calls share, what they answer, and back on the cells.
 pub mod answer;
-pub mod call_step;
-pub mod open;
-pub mod plain_step;
 pub mod position;
 pub mod prepare;
-pub mod program;
-pub mod step;
 pub mod take_back;
-pub mod zero;

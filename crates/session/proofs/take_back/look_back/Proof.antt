@@ -3,7 +3,7 @@ use native.Mathlib.Omega.{arith}
 use borrow.Author.Tests.{not-true, not-false, lt-ltb, le-ltb}
 use Rattle.tables.specs.Outcome.{_>>_, need}
 use Rattle.session.specs.Back.{lastChanges, journalLook, takeBackLook}
-use Rattle.session.proofs.StepLaws.{fits-used}
+use Rattle.session.proofs.PositionLaws.{fits-used}
 use borrow.Author.Needs.{needs}
 use Rattle.session.proofs.take_back.look_back.Statement.{statement}
 use Rattle.session.proofs.take_back.look_back.Tie as tie

@@ -1,0 +1,4 @@
+// Open on the cells: the looks at the program, then the cells zeroed.
+pub mod open;
+pub mod program;
+pub mod zero;
