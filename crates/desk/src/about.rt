@@ -11,6 +11,7 @@ use console::references::memory_references;
 use extern_call::access::AccessAnswer;
 use memory::Next;
 use memory::Stepped;
+use screen_text::print::byte;
 use screen_text::print::name;
 use screen_text::print::reference;
 use screen_text::print::text;
@@ -30,11 +31,11 @@ const SET_WORDS: usize = 1024;
 fn set(source: &[u8], names: &[u64; NAME_WORDS], view: View, list: &[u64], count: usize) {
     let mut i = 0;
     while i < count {
-        text(b" ");
+        byte(b' ');
         name(source, names, view, word_of(list, i));
         i += 1;
     }
-    text(b"\n");
+    byte(b'\n');
 }
 
 // The read and write sets of a CALL.
@@ -72,7 +73,7 @@ fn walked(
     let next = stepped.found;
     match next {
         Next::Reference(found) => {
-            text(b" ");
+            byte(b' ');
             reference(source, names, view, found.name, found.index);
             stepped.place
         }
@@ -116,7 +117,7 @@ fn show_references(
         place = walk_on(source, names, view, nodes, x, place);
         turns -= 1;
     }
-    text(b"\n");
+    byte(b'\n');
 }
 
 fn about_frame(

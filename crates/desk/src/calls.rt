@@ -13,7 +13,6 @@ use script::line::least;
 use session::answer::OpenAnswer;
 use session::answer::StepAnswer;
 use tables_text::file::ROOM;
-use tables_text::file::TABLE_WORDS;
 
 // The words of one of the six tables.
 pub fn table(tables: &[u64], which: usize, lengths: [usize; 6]) -> &[u64] {
@@ -30,7 +29,7 @@ pub fn front(words: &[u64], length: usize) -> &[u64] {
     &words[0..end]
 }
 
-pub fn check_tables(tables: &[u64; TABLE_WORDS], lengths: [usize; 6]) -> CheckAnswer {
+pub fn check_tables(tables: &[u64], lengths: [usize; 6]) -> CheckAnswer {
     check(
         table(tables, 0, lengths),
         table(tables, 1, lengths),
@@ -42,7 +41,7 @@ pub fn check_tables(tables: &[u64; TABLE_WORDS], lengths: [usize; 6]) -> CheckAn
 }
 
 pub fn resolve_row(
-    tables: &[u64; TABLE_WORDS],
+    tables: &[u64],
     lengths: [usize; 6],
     row: usize,
     rows: &mut [u64],
@@ -60,7 +59,7 @@ pub fn resolve_row(
 }
 
 pub fn access_row(
-    tables: &[u64; TABLE_WORDS],
+    tables: &[u64],
     lengths: [usize; 6],
     row: usize,
     reads: &mut [u64],
@@ -80,7 +79,7 @@ pub fn access_row(
 }
 
 pub fn open_tables(
-    tables: &[u64; TABLE_WORDS],
+    tables: &[u64],
     lengths: [usize; 6],
     memory: &mut [u64],
     journal: &[u64],
@@ -98,7 +97,7 @@ pub fn open_tables(
 }
 
 pub fn step_forward(
-    tables: &[u64; TABLE_WORDS],
+    tables: &[u64],
     lengths: [usize; 6],
     memory: &mut [u64],
     journal: &mut [u64],
@@ -120,7 +119,7 @@ pub fn step_forward(
 }
 
 pub fn step_back(
-    tables: &[u64; TABLE_WORDS],
+    tables: &[u64],
     lengths: [usize; 6],
     memory: &mut [u64],
     journal: &[u64],

@@ -4,6 +4,7 @@ use crate::calls::table;
 use crate::state::Desk;
 use extern_call::rows::ResolveAnswer;
 use screen_text::errors::show_errors;
+use screen_text::print::byte;
 use screen_text::print::text;
 use screen_text::program::row_line;
 use screen_text::refusal::refused;
@@ -46,7 +47,7 @@ pub fn this_row(
         table(tables, 5, lengths),
         row,
     );
-    text(b"\n");
+    byte(b'\n');
 }
 
 // Resolves a row that is a CALL, into `rows`, and shows what came; how many arguments are resolved.
@@ -143,6 +144,6 @@ pub fn explain_open(
         6 => explain_call(source, names, tables, desk, false),
         7 => explain_call(source, names, tables, desk, false),
         8 => explain_call(source, names, tables, desk, true),
-        _ => text(b""),
+        _ => {}
     }
 }

@@ -1,5 +1,6 @@
 // Lines from standard input.
 use libc::STDIN_FILENO;
+use screen_text::print::byte;
 use screen_text::print::text;
 use screen_text::view::View;
 use script::line::part;
@@ -59,7 +60,10 @@ pub fn ask(prompt: &[u8], line: &mut [u8; LINE], view: View) -> Typed {
     let typed = read_line(line);
     if view.echo {
         text(part(line, 0, typed.length));
-        text(b"\n");
+    }
+    // A terminal echoes no end of the line where the input ends.
+    if view.echo | typed.ended {
+        byte(b'\n');
     }
     typed
 }

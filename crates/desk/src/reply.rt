@@ -3,6 +3,8 @@ use crate::explain::RESOLVE_WORDS;
 use crate::input::LINE;
 use crate::input::ask;
 use crate::input::typed_line;
+use screen_text::print::byte;
+use screen_text::print::line;
 use screen_text::print::style;
 use screen_text::print::text;
 use screen_text::view::View;
@@ -11,25 +13,33 @@ use script::line::byte_at;
 use script::line::part;
 use script::line::word_at;
 use tables_text::names::word_of;
+use tables_text::word::NO_WORD;
 use tables_text::word::ONE;
-use tables_text::word::TOO_LARGE;
-use tables_text::word::TOO_MANY_DIGITS;
 use tables_text::word::Value;
 use tables_text::word::decimal;
 use tables_text::word::integer;
 
-// Two rows more than a reply may have, so that one too long can be tried.
-pub const REPLY_WORDS: usize = 264;
+// One row more than a reply may have, so that one too long can be tried.
+pub const REPLY_WORDS: usize = 260;
 
-const REPLY_ROWS: usize = 66;
+const REPLY_ROWS: usize = 65;
+
+// The rows typed so far, and whether the reply is at its end.
+struct Asked {
+    rows: usize,
+    ended: bool,
+}
 
 const REAL: u64 = 3;
 
-// An argument's kind; INTEGER for one that there is not, which the step refuses.
+// The kind of an argument that there is not.
+const ABSENT: u64 = 4;
+
+// An argument's kind.
 fn kind_of(rows: &[u64], count: usize, argument: u64) -> u64 {
     let at = (argument % 0x10000) as usize * 5;
     if argument >= count as u64 {
-        return 1;
+        return ABSENT;
     }
     if word_of(rows, at) == 0 {
         return word_of(rows, at + 2);
@@ -37,26 +47,29 @@ fn kind_of(rows: &[u64], count: usize, argument: u64) -> u64 {
     word_of(rows, at + 3)
 }
 
-// A REAL is a short decimal, or bits in hexadecimal; any other kind an integer.
+// A REAL is a short decimal, or bits in hexadecimal; any other kind an integer. Whatever is typed for an argument that there is not, the step refuses.
 fn value_in(k: u64, word: &[u8]) -> Value {
+    if k == ABSENT {
+        return integer(b"0");
+    }
     if (k == REAL) & (byte_at(word, 1) != b'x') {
         return decimal(word);
     }
     integer(word)
 }
 
-fn complain(view: View, kind_of_value: u8) {
+// Why a line is not taken: a line for each cause of `tables_text::word`, from NO_WORD.
+fn complain(view: View, cause: u8) {
     style(view, b"31");
-    match kind_of_value {
-        TOO_LARGE => text(b"not taken: the number does not fit 64 bits\n"),
-        TOO_MANY_DIGITS => text(
-            b"not taken: a REAL has at most 15 digits here; write its bits as 0x..\n",
-        ),
-        _ => text(
-            b"not taken: a row is argument, offset and value, an empty line ends the reply\n",
-        ),
-    }
+    text(b"not taken: ");
+    line(
+        b"a row is argument, offset and value, a REAL as a decimal or as bits 0x.., any other kind as an integer; an empty line ends the reply\n\
+        the number does not fit 64 bits\n\
+        a REAL has at most 15 digits here; write its bits as 0x..",
+        std::num::wrapping_sub_u64(cause as u64, NO_WORD as u64),
+    );
     style(view, b"0");
+    byte(b'\n');
 }
 
 fn put_row(
@@ -98,7 +111,7 @@ fn put_values(
     value.kind
 }
 
-// A line as a reply's row; whether it is taken.
+// A line as a reply's row; whether it is taken. What stands after the third word makes it no value.
 fn take_row(
     line: &[u8],
     rows: &[u64],
@@ -110,9 +123,15 @@ fn take_row(
     let first = word_at(line, 0, line.len());
     let second = word_at(line, first.end, line.len());
     let third = word_at(line, second.end, line.len());
+    let fourth = word_at(line, third.end, line.len());
+    let end = if fourth.start < fourth.end {
+        fourth.end
+    } else {
+        third.end
+    };
     let argument = integer(part(line, first.start, first.end));
     let offset = integer(part(line, second.start, second.end));
-    let word = part(line, third.start, third.end);
+    let word = part(line, third.start, end);
     let answer = put_values(rows, count, argument, offset, word, reply, row);
     if answer != ONE {
         complain(view, answer);
@@ -120,40 +139,59 @@ fn take_row(
     answer == ONE
 }
 
-// One more row; how many there are then. More than 66 are not kept.
+fn is_empty(line: &[u8]) -> bool {
+    let word = word_at(line, 0, line.len());
+    word.start >= word.end
+}
+
+// One more row, up to an empty line. After one row too many no more is asked for.
 fn ask_row(
     rows: &[u64],
     count: usize,
     reply: &mut [u64; REPLY_WORDS],
     row: usize,
     view: View,
-) -> usize {
+) -> Asked {
     let mut line = [0; LINE];
     let typed = ask(b"reply: ", &mut line, view);
-    if typed.length == 0 {
-        return REPLY_ROWS + row % REPLY_ROWS;
+    let words = typed_line(&line, typed);
+    if is_empty(words) {
+        return Asked {
+            rows: row,
+            ended: true,
+        };
     }
-    if take_row(typed_line(&line, typed), rows, count, reply, row, view) {
-        return row % REPLY_ROWS + 1;
+    if take_row(words, rows, count, reply, row, view) {
+        let next = row % REPLY_ROWS + 1;
+        return Asked {
+            rows: next,
+            ended: next == REPLY_ROWS,
+        };
     }
-    row
+    Asked {
+        rows: row,
+        ended: false,
+    }
 }
 
-// Asks for rows up to an empty line; the reply's length in words.
+// Asks for rows; the reply's length in words.
 pub fn ask_reply(
     rows: &[u64; RESOLVE_WORDS],
     count: usize,
     reply: &mut [u64; REPLY_WORDS],
     view: View,
 ) -> usize {
-    let mut row = 0;
+    let mut asked = Asked {
+        rows: 0,
+        ended: false,
+    };
     let mut turns: usize = 10000;
     while turns > 0 {
-        if row >= REPLY_ROWS {
+        if asked.ended {
             break;
         }
-        row = ask_row(rows, count, reply, row, view);
+        asked = ask_row(rows, count, reply, asked.rows, view);
         turns -= 1;
     }
-    row % REPLY_ROWS * 4
+    asked.rows % (REPLY_ROWS + 1) * 4
 }

@@ -1,6 +1,6 @@
 // What a key changed in memory, cell by cell.
-use crate::print::name;
-use crate::print::number;
+use crate::print::byte;
+use crate::print::reference;
 use crate::print::style;
 use crate::print::text;
 use crate::print::value;
@@ -32,10 +32,7 @@ fn cell_name(source: &[u8], names: &[u64; NAME_WORDS], view: View, regions: &[u6
         at = std::num::wrapping_add_usize(at, REGION_WIDTH);
         left -= 1;
     }
-    name(source, names, view, word_of(regions, at));
-    text(b"[");
-    number(rest);
-    text(b"]");
+    reference(source, names, view, word_of(regions, at), rest);
 }
 
 // A cell's old and new value, where it changed; whether it did.
@@ -63,7 +60,7 @@ fn change(
     text(b" -> ");
     value(new_kind, new_word, view);
     style(view, b"0");
-    text(b"\n");
+    byte(b'\n');
     true
 }
 

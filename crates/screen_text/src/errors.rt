@@ -1,5 +1,7 @@
 // Type errors and argument errors in words.
+use crate::print::byte;
 use crate::print::kind;
+use crate::print::line;
 use crate::print::name;
 use crate::print::number;
 use crate::print::text;
@@ -11,36 +13,42 @@ use type_check::error::TypeError;
 
 // The operand that an error names.
 fn spot(n: u64) {
-    match n {
-        1 => text(b"the first operand"),
-        2 => text(b"the second operand"),
-        3 => text(b"the source"),
-        _ => {
-            text(b"node ");
-            number(std::num::wrapping_sub_u64(n, 4));
-            text(b" of the expression")
-        }
+    if n > 3 {
+        text(b"node ");
+        number(n - 4);
+        text(b" of the expression");
+        return;
     }
+    line(
+        b"the first operand\n\
+        the second operand\n\
+        the source",
+        std::num::wrapping_sub_u64(n, 1),
+    );
 }
 
-// The codes of 01 after the four kinds.
+// The codes of 01, a line for each.
 fn code(n: u64) {
-    match n {
-        4 => text(b"an integer literal"),
-        5 => text(b"a real literal"),
-        6 => text(b"an imaginary number"),
-        7 => text(b"a variable"),
-        9 => text(b"REAL or INTEGER"),
-        10 => text(b"BIT, INTEGER or OCTET"),
-        11 => text(b"BIT"),
-        _ => kind(n),
-    }
+    line(
+        b"BIT\n\
+        INTEGER\n\
+        OCTET\n\
+        REAL\n\
+        an integer literal\n\
+        a real literal\n\
+        an imaginary number\n\
+        a variable\n\
+        absent\n\
+        REAL or INTEGER\n\
+        BIT, INTEGER or OCTET\n\
+        BIT",
+        n,
+    );
 }
 
-fn found(error: TypeError) {
-    spot(error.spot);
+fn is(n: u64) {
     text(b" is ");
-    code(error.first_code);
+    code(n);
 }
 
 pub fn type_error(error: TypeError) {
@@ -50,37 +58,34 @@ pub fn type_error(error: TypeError) {
     text(b" in row ");
     number(error.row);
     text(b": ");
+    spot(error.spot);
     match number_of_error {
-        1 => {
-            spot(error.spot);
-            text(b" is not declared")
-        }
+        1 => text(b" is not declared"),
         2 => {
-            found(error);
+            is(error.first_code);
             text(b", ");
             spot(error.src_spot);
-            text(b" is ");
-            code(error.second_code)
+            is(error.second_code)
         }
         3 => {
-            found(error);
+            is(error.first_code);
             text(b", where a real value is required")
         }
         _ => {
-            found(error);
+            is(error.first_code);
             text(b", where ");
             code(error.second_code);
             text(b" is required")
         }
     }
-    text(b"\n");
+    byte(b'\n');
 }
 
 fn vector(k: u64, length: u64) {
     kind(k);
-    text(b"[");
+    byte(b'[');
     number(length);
-    text(b"]");
+    byte(b']');
 }
 
 // The six causes, in the Rust's order; the details are the error row's last four words.
@@ -153,7 +158,7 @@ fn error_row(source: &[u8], names: &[u64; NAME_WORDS], view: View, rows: &[u64],
         word_of(rows, at + 5),
         word_of(rows, at + 6),
     );
-    text(b"\n");
+    byte(b'\n');
 }
 
 // All error rows of a CALL, a line each.

@@ -2,6 +2,8 @@
 use crate::view::View;
 use libc::STDOUT_FILENO;
 use real_text::text::text_of;
+use script::line::Line;
+use script::line::line_at;
 use script::line::part;
 use tables_text::list::item;
 use tables_text::names::NAME_WORDS;
@@ -14,6 +16,28 @@ pub fn text(bytes: &[u8]) {
     io::write_all(STDOUT_FILENO, bytes);
 }
 
+pub fn byte(b: u8) {
+    let one = [b; 1];
+    text(&one);
+}
+
+// The line at a place, from 0; an empty one past the end.
+fn line_of(list: &[u8], place: usize) -> Line {
+    let mut line = line_at(list, 0);
+    let mut left = place;
+    while left > 0 {
+        line = line_at(list, line.next);
+        left -= 1;
+    }
+    line
+}
+
+// One line of a text of at most 32, by its place.
+pub fn line(list: &[u8], place: u64) {
+    let found = line_of(list, (place % 32) as usize);
+    text(part(list, found.start, found.end));
+}
+
 pub fn number(n: u64) {
     io::print_decimal(STDOUT_FILENO, n);
 }
@@ -23,7 +47,7 @@ pub fn signed(n: u64) {
     if n < HALF {
         number(n);
     } else {
-        text(b"-");
+        byte(b'-');
         number(std::num::wrapping_sub_u64(0, n));
     }
 }
@@ -81,16 +105,16 @@ pub fn name(source: &[u8], names: &[u64; NAME_WORDS], view: View, n: u64) {
     if n < view.names as u64 {
         text(part(source, place.start, place.end));
     } else {
-        text(b"#");
+        byte(b'#');
         number(n);
     }
 }
 
 pub fn reference(source: &[u8], names: &[u64; NAME_WORDS], view: View, n: u64, index: u64) {
     name(source, names, view, n);
-    text(b"[");
+    byte(b'[');
     signed(index);
-    text(b"]");
+    byte(b']');
 }
 
 // A style where the output is a terminal: its number of the escape sequences, 0 for none.
@@ -98,6 +122,6 @@ pub fn style(view: View, number: &[u8]) {
     if view.colour {
         text(b"\x1b[");
         text(number);
-        text(b"m");
+        byte(b'm');
     }
 }

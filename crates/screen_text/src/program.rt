@@ -1,4 +1,5 @@
 // The program's rows, the current one marked.
+use crate::print::byte;
 use crate::print::number;
 use crate::print::style;
 use crate::print::text;
@@ -26,10 +27,10 @@ fn mark(view: View, current: bool) {
 // A row's number at the right of three places.
 pub fn row_number(row: usize) {
     if row < 10 {
-        text(b" ");
+        byte(b' ');
     }
     if row < 100 {
-        text(b" ");
+        byte(b' ');
     }
     number(row as u64);
     text(b"  ");
@@ -84,7 +85,7 @@ pub fn program_rows(
         mark(view, row == done);
         row_line(source, names, view, nodes, arguments, instructions, row);
         style(view, b"0");
-        text(b"\n");
+        byte(b'\n');
         row += 1;
     }
 }
@@ -95,6 +96,6 @@ pub fn end_row(view: View, instructions: &[u64], done: usize) {
         mark(view, true);
         text(b"     end");
         style(view, b"0");
-        text(b"\n");
+        byte(b'\n');
     }
 }

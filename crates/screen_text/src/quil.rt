@@ -1,4 +1,5 @@
 // A program's rows as text in the manner of Quil.
+use crate::print::byte;
 use crate::print::listed;
 use crate::print::name;
 use crate::print::number;
@@ -18,7 +19,7 @@ use tables_text::vocabulary::first_of;
 const SHOWN: u64 = 24;
 
 fn first(source: &[u8], names: &[u64; NAME_WORDS], view: View, x: Instruction) {
-    text(b" ");
+    byte(b' ');
     if x.family == 7 {
         name(source, names, view, x.first_name);
     } else {
@@ -31,14 +32,14 @@ fn second(source: &[u8], names: &[u64; NAME_WORDS], view: View, x: Instruction) 
     let family = x.family;
     match family {
         1 | 5 | 7 => {
-            text(b" ");
+            byte(b' ');
             reference(source, names, view, x.second_name, x.second_index)
         }
         6 => {
-            text(b" ");
+            byte(b' ');
             name(source, names, view, x.second_name)
         }
-        _ => text(b""),
+        _ => {}
     }
 }
 
@@ -46,39 +47,39 @@ fn source_operand(source: &[u8], names: &[u64; NAME_WORDS], view: View, x: Instr
     let form = x.source_form;
     match form {
         0 => {
-            text(b" ");
+            byte(b' ');
             signed(x.source_first)
         }
         1 => {
-            text(b" ");
+            byte(b' ');
             real(x.source_first, view)
         }
         2 => {
-            text(b" ");
+            byte(b' ');
             reference(source, names, view, x.source_first, x.source_second)
         }
-        _ => text(b""),
+        _ => {}
     }
 }
 
 pub fn complex(real_bits: u64, imaginary_bits: u64, view: View) {
     real(real_bits, view);
     if imaginary_bits != 0 {
-        text(b"+");
+        byte(b'+');
         real(imaginary_bits, view);
-        text(b"i");
+        byte(b'i');
     }
 }
 
 // A node: a parent by its tag's name, its children after it.
 fn node(source: &[u8], names: &[u64; NAME_WORDS], view: View, tag: u64, one: u64, two: u64) {
     let nodes = NODES;
-    text(b" ");
+    byte(b' ');
     match tag {
         0 => reference(source, names, view, one, two),
         3 => complex(one, two, view),
         6 => {
-            text(b"%");
+            byte(b'%');
             name(source, names, view, one)
         }
         _ => listed(&nodes, (tag % 16) as usize),
@@ -140,7 +141,7 @@ pub fn argument(
 
 fn argument_row(source: &[u8], names: &[u64; NAME_WORDS], view: View, arguments: &[u64], row: u64) {
     let at = (row % 0x10000) as usize * 3;
-    text(b" ");
+    byte(b' ');
     argument(
         source,
         names,
@@ -208,11 +209,11 @@ pub fn row_text(
     match family {
         8 => expression(source, names, view, nodes, x.first_name, x.first_index),
         9 => {
-            text(b" ");
+            byte(b' ');
             name(source, names, view, x.first_name);
             argument_list(source, names, view, arguments, x.first_index, x.second_name)
         }
-        10 => text(b""),
+        10 => {}
         _ => operands(source, names, view, x),
     }
 }

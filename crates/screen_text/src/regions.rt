@@ -1,4 +1,5 @@
 // The regions with their cells.
+use crate::print::byte;
 use crate::print::kind;
 use crate::print::name;
 use crate::print::number;
@@ -36,11 +37,11 @@ fn cells(memory: &[u64], view: View, first: u64, length: u64) {
 fn region_head(source: &[u8], names: &[u64; NAME_WORDS], view: View, n: u64, k: u64, length: u64) {
     text(b"  ");
     name(source, names, view, n);
-    text(b" ");
+    byte(b' ');
     kind(k);
-    text(b"[");
+    byte(b'[');
     number(length);
-    text(b"]");
+    byte(b']');
 }
 
 // The regions' rows, with cells where the program is opened.
@@ -68,7 +69,7 @@ pub fn region_lines(
         if opened {
             cells(memory, view, first, length);
         }
-        text(b"\n");
+        byte(b'\n');
         first = std::num::wrapping_add_u64(first, length);
         at = std::num::wrapping_add_usize(at, REGION_WIDTH);
         left -= 1;

@@ -1,4 +1,5 @@
 // A CALL's resolved arguments.
+use crate::print::byte;
 use crate::print::kind;
 use crate::print::name;
 use crate::print::number;
@@ -11,16 +12,16 @@ use tables_text::names::word_of;
 
 fn vector(source: &[u8], names: &[u64; NAME_WORDS], view: View, n: u64, k: u64, length: u64) {
     name(source, names, view, n);
-    text(b" ");
+    byte(b' ');
     kind(k);
-    text(b"[");
+    byte(b'[');
     number(length);
-    text(b"]");
+    byte(b']');
 }
 
 fn scalar(source: &[u8], names: &[u64; NAME_WORDS], view: View, n: u64, index: u64, k: u64) {
     reference(source, names, view, n, index);
-    text(b" ");
+    byte(b' ');
     kind(k);
 }
 
@@ -47,7 +48,7 @@ fn resolved(source: &[u8], names: &[u64; NAME_WORDS], view: View, rows: &[u64], 
     if word_of(rows, at + 4) == 1 {
         text(b", mutable");
     }
-    text(b"\n");
+    byte(b'\n');
 }
 
 // The resolved arguments, a line each.

@@ -1,4 +1,4 @@
-// The page of refusals: the same program as `stepper`, asked for the page.
+// The page of refusals, as the console shows it for `refusals` and the key p.
 fn main() {
-    terminal::run::run();
+    screen_text::page::page();
 }

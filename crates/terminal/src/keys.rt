@@ -3,7 +3,9 @@ use crate::load::load;
 use crate::steps::back_key;
 use crate::steps::check_key;
 use crate::steps::forward_key;
+use crate::steps::no_file;
 use crate::steps::reset;
+use crate::steps::tell_changes;
 use desk::about::about;
 use desk::input::LINE;
 use desk::input::ask;
@@ -14,6 +16,7 @@ use desk::state::JOURNAL_WORDS;
 use desk::state::MEMORY_WORDS;
 use desk::state::NO_FILE;
 use desk::state::TEXT_BYTES;
+use screen_text::changes::copy;
 use screen_text::page::page;
 use screen_text::print::text;
 use script::line::byte_at;
@@ -23,21 +26,21 @@ use tables_text::file::TABLE_WORDS;
 use tables_text::names::NAME_WORDS;
 
 pub fn help() {
-    text(b"Keys, one a line:\n");
-    text(b"  (empty)  forward: the next row; at a CALL the reply is asked for\n");
-    text(b"  b        back: takes the last step back\n");
-    text(b"  r        reset: opens the program again\n");
     text(
-        b"  a        about the current row: a CALL's arguments and access sets, a frame's references\n",
+        b"Keys, one a line:\n  \
+        (empty)  forward: the next row; at a CALL the reply is asked for\n  \
+        b        back: takes the last step back\n  \
+        r        reset: opens the program again\n  \
+        a        about the current row: a CALL's arguments and access sets, a frame's references\n  \
+        c        type check of the whole program\n  \
+        x        REAL words as bits, on and off\n  \
+        m        more: all rows and all cells, on and off\n  \
+        o FILE   opens another file\n  \
+        p        the page of refusals: what is turned down, why, and who can mend it\n  \
+        h        this help\n  \
+        q        quit\n\
+        A reply's row is: argument, offset, value. An empty line ends the reply.\n",
     );
-    text(b"  c        type check of the whole program\n");
-    text(b"  x        REAL words as bits, on and off\n");
-    text(b"  m        more: all rows and all cells, on and off\n");
-    text(b"  o FILE   opens another file\n");
-    text(b"  p        the page of refusals: what is turned down, why, and who can mend it\n");
-    text(b"  h        this help\n");
-    text(b"  q        quit\n");
-    text(b"A reply's row is: argument, offset, value. An empty line ends the reply.\n");
 }
 
 // The screen of the desk's file.
@@ -77,6 +80,24 @@ pub fn open_file(
     )
 }
 
+// Keys that tell something of the file.
+fn file_key(
+    key: u8,
+    source: &[u8],
+    names: &[u64; NAME_WORDS],
+    tables: &[u64; TABLE_WORDS],
+    desk: Desk,
+) {
+    if desk.state == NO_FILE {
+        no_file();
+        return;
+    }
+    match key {
+        b'a' => about(source, names, tables, desk),
+        _ => check_key(tables, desk),
+    }
+}
+
 // Keys that only show something.
 fn showing_key(
     key: u8,
@@ -86,8 +107,8 @@ fn showing_key(
     desk: Desk,
 ) -> Desk {
     match key {
-        b'a' => about(source, names, tables, desk),
-        b'c' => check_key(tables, desk),
+        b'a' => file_key(key, source, names, tables, desk),
+        b'c' => file_key(key, source, names, tables, desk),
         b'p' => page(),
         b'h' => help(),
         _ => text(b"no such key: h shows the keys\n"),
@@ -112,8 +133,8 @@ fn view_key(
     }
 }
 
-// A key that stands alone on its line; 0 is the empty line.
-fn press(
+// Keys that step; 0 is the empty line.
+fn step_key(
     key: u8,
     source: &[u8],
     names: &mut [u64; NAME_WORDS],
@@ -124,10 +145,33 @@ fn press(
 ) -> Desk {
     match key {
         0 => forward_key(source, names, tables, desk, memory, journal),
-        b'b' => back_key(source, names, tables, desk, memory, journal),
-        b'r' => reset(source, names, tables, desk, memory, journal),
-        _ => view_key(key, source, names, tables, desk),
+        b'b' => back_key(tables, desk, memory, journal),
+        _ => reset(source, names, tables, desk, memory, journal),
     }
+}
+
+fn steps(key: u8) -> bool {
+    (key == 0) | ((key == b'b') | (key == b'r'))
+}
+
+// A key that stands alone on its line, and what it changed.
+fn press(
+    key: u8,
+    source: &[u8],
+    names: &mut [u64; NAME_WORDS],
+    tables: &[u64; TABLE_WORDS],
+    memory: &mut [u64; MEMORY_WORDS],
+    journal: &mut [u64; JOURNAL_WORDS],
+    desk: Desk,
+) -> Desk {
+    if !steps(key) {
+        return view_key(key, source, names, tables, desk);
+    }
+    let mut before = [0; MEMORY_WORDS];
+    copy(memory, &mut before);
+    let next = step_key(key, source, names, tables, memory, journal, desk);
+    tell_changes(source, names, tables, &before, memory, desk, next);
+    next
 }
 
 // Whether the screen is shown after a key.

@@ -4,6 +4,8 @@ use desk::state::Desk;
 use desk::state::NO_FILE;
 use desk::state::OPENED;
 use desk::state::TEXT_BYTES;
+use screen_text::print::byte;
+use screen_text::print::line;
 use screen_text::print::number;
 use screen_text::print::style;
 use screen_text::print::text;
@@ -16,13 +18,8 @@ use tables_text::file::UNSET;
 use tables_text::file::read_file;
 use tables_text::names::NAME_WORDS;
 use tables_text::names::word_of;
-use tables_text::row::COUNT;
-use tables_text::row::NO_HEADING;
 use tables_text::row::NONE;
-use tables_text::row::TOO_MANY_NAMES;
-use tables_text::row::TOO_MANY_ROWS;
-use tables_text::word::TOO_LARGE;
-use tables_text::word::TOO_MANY_DIGITS;
+use tables_text::word::NO_WORD;
 
 const MOST_CELLS: usize = 4096;
 
@@ -43,19 +40,22 @@ fn cell_count(regions: &[u64]) -> usize {
     total
 }
 
+// Why a line is not taken: a line for each cause of `tables_text`, from NO_WORD.
 fn trouble(reader: Reader) {
-    let cause = reader.trouble;
     text(b"line ");
     number(reader.line as u64);
-    match cause {
-        COUNT => text(b": too many or too few words\n"),
-        NO_HEADING => text(b": a row before any table's heading\n"),
-        TOO_MANY_ROWS => text(b": the table has no room for more rows\n"),
-        TOO_MANY_NAMES => text(b": more than 1024 names\n"),
-        TOO_LARGE => text(b": a number does not fit 64 bits\n"),
-        TOO_MANY_DIGITS => text(b": a REAL has at most 15 digits here; write its bits as 0x..\n"),
-        _ => text(b": no number, no name and no word of this table\n"),
-    }
+    text(b": ");
+    line(
+        b"no number, no name and no word of this table\n\
+        a number does not fit 64 bits\n\
+        a REAL has at most 15 digits here; write its bits as 0x..\n\
+        too many or too few words\n\
+        a row before any table's heading\n\
+        the table has no room for more rows\n\
+        more than 1024 names\n",
+        std::num::wrapping_sub_u64(reader.trouble as u64, NO_WORD as u64),
+    );
+    byte(b'\n');
 }
 
 // Memory and journal as asked for; the memory exactly enough for the cells where nothing is asked.
@@ -117,7 +117,12 @@ pub fn load(
     let count = least(read_bytes(path, buffer), TEXT_BYTES);
     if (count == 0) | (count == TEXT_BYTES) {
         text(path);
-        text(b": there is no such file, or it is empty or longer than 65,535 bytes\n");
+        line(
+            b": there is no such file, or it cannot be read or is empty\n\
+            : longer than 65,535 bytes",
+            (count / TEXT_BYTES) as u64,
+        );
+        byte(b'\n');
         return desk.stated(NO_FILE);
     }
     let mut next = desk;

@@ -23,7 +23,7 @@ use tables_text::names::NAME_WORDS;
 fn verdict(state: u64) {
     match state {
         OPENED => text(b"accepted\n"),
-        NO_FILE => text(b"no file\n"),
+        NO_FILE => text(b"not read\n"),
         _ => {
             text(b"turned down ");
             number(state);
@@ -49,6 +49,9 @@ fn start(path: &[u8], only_check: bool, desk: Desk) {
     );
     if only_check {
         verdict(opened.state);
+        return;
+    }
+    if opened.state == NO_FILE {
         return;
     }
     show(&buffer, &names, &tables, &memory, opened);

@@ -10,6 +10,7 @@ use desk::explain::RESOLVE_WORDS;
 use desk::explain::explain_open;
 use desk::explain::family_at;
 use desk::explain::show_call;
+use desk::explain::this_row;
 use desk::reply::REPLY_WORDS;
 use desk::reply::ask_reply;
 use desk::state::Desk;
@@ -19,7 +20,6 @@ use desk::state::NO_FILE;
 use desk::state::OPENED;
 use journal::position::Position;
 use screen_text::changes::changes;
-use screen_text::changes::copy;
 use screen_text::errors::type_error;
 use screen_text::print::style;
 use screen_text::print::text;
@@ -51,6 +51,7 @@ fn opened(
         }
         OpenAnswer::Error(error) => {
             refused(TYPE_ERROR, desk.view);
+            this_row(source, names, tables, desk, error.row as usize);
             type_error(error);
             TYPE_ERROR
         }
@@ -96,6 +97,10 @@ fn plant_lent(
     desk.placed(position)
 }
 
+pub fn no_file() {
+    text(b"no file is open: o FILE opens one\n");
+}
+
 // Opens the program that was read.
 pub fn reset(
     source: &[u8],
@@ -106,7 +111,7 @@ pub fn reset(
     journal: &mut [u64; JOURNAL_WORDS],
 ) -> Desk {
     if desk.state == NO_FILE {
-        text(b"no file is open\n");
+        no_file();
         return desk;
     }
     let next = open_lent(source, names, tables, desk, memory, journal);
@@ -127,79 +132,31 @@ fn stepped(answer: StepAnswer, view: View) -> Position {
     }
 }
 
-// What a step answered and changed, in words; the desk after it.
-fn finish(
+// What a key changed, in words.
+pub fn tell_changes(
     source: &[u8],
     names: &[u64; NAME_WORDS],
-    regions: &[u64],
-    desk: Desk,
+    tables: &[u64],
     before: &[u64],
     memory: &[u64],
-    answer: StepAnswer,
-) -> Desk {
-    let view = desk.view;
-    let old = desk.position;
-    let position = stepped(answer, view);
-    let any = changes(source, names, view, regions, before, memory);
-    if !any & (position.done != old.done) {
+    old: Desk,
+    new: Desk,
+) {
+    let first = old.position;
+    let last = new.position;
+    let lengths = new.lengths;
+    let regions = table(tables, 0, lengths);
+    let any = changes(
+        source,
+        names,
+        new.view,
+        regions,
+        before,
+        front(memory, new.memory),
+    );
+    if !any & (first.done != last.done) {
         text(b"no cell changed\n");
     }
-    desk.placed(position)
-}
-
-fn forward_lent(
-    source: &[u8],
-    names: &[u64; NAME_WORDS],
-    tables: &[u64; TABLE_WORDS],
-    desk: Desk,
-    memory: &mut [u64],
-    journal: &mut [u64],
-    reply: &[u64; REPLY_WORDS],
-    length: usize,
-) -> Desk {
-    let lengths = desk.lengths;
-    let mut before = [0; MEMORY_WORDS];
-    copy(memory, &mut before);
-    let answer = step_forward(
-        tables,
-        lengths,
-        memory,
-        journal,
-        desk.position,
-        front(reply, length),
-    );
-    finish(
-        source,
-        names,
-        table(tables, 0, lengths),
-        desk,
-        &before,
-        memory,
-        answer,
-    )
-}
-
-fn back_lent(
-    source: &[u8],
-    names: &[u64; NAME_WORDS],
-    tables: &[u64; TABLE_WORDS],
-    desk: Desk,
-    memory: &mut [u64],
-    journal: &[u64],
-) -> Desk {
-    let lengths = desk.lengths;
-    let mut before = [0; MEMORY_WORDS];
-    copy(memory, &mut before);
-    let answer = step_back(tables, lengths, memory, journal, desk.position);
-    finish(
-        source,
-        names,
-        table(tables, 0, lengths),
-        desk,
-        &before,
-        memory,
-        answer,
-    )
 }
 
 // Keys that step need an opened program.
@@ -207,9 +164,13 @@ fn is_open(desk: Desk) -> bool {
     if desk.state == OPENED {
         return true;
     }
+    if desk.state == NO_FILE {
+        no_file();
+        return false;
+    }
     let view = desk.view;
     style(view, b"31");
-    text(b"nothing is opened: o FILE opens a file, r opens this one again\n");
+    text(b"the program is turned down, so there is no step: o FILE opens another\n");
     style(view, b"0");
     false
 }
@@ -232,6 +193,10 @@ fn reply_for(
     ask_reply(&rows, count, reply, desk.view)
 }
 
+fn reply_words(reply: &[u64; REPLY_WORDS], length: usize) -> &[u64] {
+    front(reply, length)
+}
+
 pub fn forward_key(
     source: &[u8],
     names: &[u64; NAME_WORDS],
@@ -245,45 +210,39 @@ pub fn forward_key(
     if !is_open(desk) {
         return desk;
     }
+    let lengths = desk.lengths;
     let mut reply = [0; REPLY_WORDS];
     let length = reply_for(source, names, tables, desk, &mut reply);
-    forward_lent(
-        source,
-        names,
+    let answer = step_forward(
         tables,
-        desk,
+        lengths,
         &mut memory[0..words],
         &mut journal[0..entries],
-        &reply,
-        length,
-    )
+        desk.position,
+        reply_words(&reply, length),
+    );
+    desk.placed(stepped(answer, desk.view))
 }
 
-pub fn back_key(
-    source: &[u8],
-    names: &[u64; NAME_WORDS],
-    tables: &[u64; TABLE_WORDS],
-    desk: Desk,
-    memory: &mut [u64],
-    journal: &[u64],
-) -> Desk {
+pub fn back_key(tables: &[u64], desk: Desk, memory: &mut [u64], journal: &[u64]) -> Desk {
     let words = least(desk.memory, memory.len());
     let entries = least(desk.journal, journal.len());
     if !is_open(desk) {
         return desk;
     }
-    back_lent(
-        source,
-        names,
+    let lengths = desk.lengths;
+    let answer = step_back(
         tables,
-        desk,
+        lengths,
         &mut memory[0..words],
         &journal[0..entries],
-    )
+        desk.position,
+    );
+    desk.placed(stepped(answer, desk.view))
 }
 
 // The verdict of the type check, in words.
-pub fn check_key(tables: &[u64; TABLE_WORDS], desk: Desk) {
+pub fn check_key(tables: &[u64], desk: Desk) {
     let lengths = desk.lengths;
     let answer = check_tables(tables, lengths);
     match answer {

@@ -4,10 +4,10 @@ use Rattle.desk.proofs.about.show_references.Statement.{statement}
 use Rattle.desk.proofs.about.show_references.Tie as tie
 
 abbrev Inv-loop : tie.InvT-loop
-Inv-loop source names view nodes x place₀ turns₀ t9 place turns = Unit {0}
+Inv-loop source names view nodes x place₀ turns₀ place turns = Unit {0}
 
 abbrev μ-loop : tie.MeasureT-loop
-μ-loop source names view nodes x place₀ turns₀ t9 place turns = turns
+μ-loop source names view nodes x place₀ turns₀ place turns = turns
 
 slice-aggregate-text : tie.Need-slice-aggregate-text Inv-loop μ-loop
 slice-aggregate-text c = search needs
@@ -30,11 +30,8 @@ loop-less c = search needs
 loop-again : tie.Need-loop-again Inv-loop μ-loop
 loop-again c = search needs
 
-slice-aggregate-text-2 : tie.Need-slice-aggregate-text-2 Inv-loop μ-loop
-slice-aggregate-text-2 c = search needs
-
-text-requires-2 : tie.Need-text-requires-2 Inv-loop μ-loop
-text-requires-2 c κs = search needs
+byte-requires : tie.Need-byte-requires Inv-loop μ-loop
+byte-requires c κs = search needs
 
 returns : tie.Need-returns Inv-loop μ-loop
 returns c = search needs
@@ -52,6 +49,5 @@ show-references-spec =
     sub-turns
     loop-less
     loop-again
-    slice-aggregate-text-2
-    text-requires-2
+    byte-requires
     returns)

@@ -4,10 +4,10 @@ use Rattle.desk.proofs.reply.ask_reply.Statement.{statement}
 use Rattle.desk.proofs.reply.ask_reply.Tie as tie
 
 abbrev Inv-loop : tie.InvT-loop
-Inv-loop rows count reply₀ view row₀ turns₀ reply row turns = Unit {0}
+Inv-loop rows count reply₀ view asked₀ turns₀ reply asked turns = Unit {0}
 
 abbrev μ-loop : tie.MeasureT-loop
-μ-loop rows count reply₀ view row₀ turns₀ reply row turns = turns
+μ-loop rows count reply₀ view asked₀ turns₀ reply asked turns = turns
 
 loop-holds : tie.Need-loop-holds Inv-loop μ-loop
 loop-holds c = search needs
@@ -23,6 +23,12 @@ loop-less c = search needs
 
 loop-again : tie.Need-loop-again Inv-loop μ-loop
 loop-again c = search needs
+
+add-result : tie.Need-add-result Inv-loop μ-loop
+add-result c = search needs
+
+rem-result : tie.Need-rem-result Inv-loop μ-loop
+rem-result c = search needs
 
 mul-result : tie.Need-mul-result Inv-loop μ-loop
 mul-result c = search needs
@@ -41,5 +47,7 @@ ask-reply-spec =
     sub-turns
     loop-less
     loop-again
+    add-result
+    rem-result
     mul-result
     returns)

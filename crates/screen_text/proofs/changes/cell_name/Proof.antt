@@ -4,10 +4,10 @@ use Rattle.screen_text.proofs.changes.cell_name.Statement.{statement}
 use Rattle.screen_text.proofs.changes.cell_name.Tie as tie
 
 abbrev Inv-loop : tie.InvT-loop
-Inv-loop source names view regions place rest₀ at₀ left₀ t10 t11 rest at left = Unit {0}
+Inv-loop source names view regions place rest₀ at₀ left₀ rest at left = Unit {0}
 
 abbrev μ-loop : tie.MeasureT-loop
-μ-loop source names view regions place rest₀ at₀ left₀ t10 t11 rest at left = left
+μ-loop source names view regions place rest₀ at₀ left₀ rest at left = left
 
 loop-holds : tie.Need-loop-holds Inv-loop μ-loop
 loop-holds c = search needs
@@ -36,23 +36,8 @@ loop-again c = search needs
 word-of-requires-2 : tie.Need-word-of-requires-2 Inv-loop μ-loop
 word-of-requires-2 c κs = search needs
 
-name-requires : tie.Need-name-requires Inv-loop μ-loop
-name-requires c κs = search needs
-
-slice-aggregate-text : tie.Need-slice-aggregate-text Inv-loop μ-loop
-slice-aggregate-text c = search needs
-
-text-requires : tie.Need-text-requires Inv-loop μ-loop
-text-requires c κs = search needs
-
-number-requires : tie.Need-number-requires Inv-loop μ-loop
-number-requires c κs = search needs
-
-slice-aggregate-text-2 : tie.Need-slice-aggregate-text-2 Inv-loop μ-loop
-slice-aggregate-text-2 c = search needs
-
-text-requires-2 : tie.Need-text-requires-2 Inv-loop μ-loop
-text-requires-2 c κs = search needs
+reference-requires : tie.Need-reference-requires Inv-loop μ-loop
+reference-requires c κs = search needs
 
 returns : tie.Need-returns Inv-loop μ-loop
 returns c = search needs
@@ -72,10 +57,5 @@ cell-name-spec =
     loop-less
     loop-again
     word-of-requires-2
-    name-requires
-    slice-aggregate-text
-    text-requires
-    number-requires
-    slice-aggregate-text-2
-    text-requires-2
+    reference-requires
     returns)

@@ -5,10 +5,10 @@ use Rattle.screen_text.proofs.program.program_rows.Statement.{statement
 use Rattle.screen_text.proofs.program.program_rows.Tie as tie
 
 abbrev Inv-loop : tie.InvT-loop
-Inv-loop source names view nodes arguments instructions done end row₀ t10 t11 row = Unit {0}
+Inv-loop source names view nodes arguments instructions done end row₀ t10 row = Unit {0}
 
 abbrev μ-loop : tie.MeasureT-loop
-μ-loop source names view nodes arguments instructions done end row₀ t10 t11 row = end - row
+μ-loop source names view nodes arguments instructions done end row₀ t10 row = end - row
 
 window-end-requires : tie.Need-window-end-requires Inv-loop μ-loop
 window-end-requires c κs = search needs
@@ -31,11 +31,8 @@ slice-aggregate-style c = search needs
 style-requires : tie.Need-style-requires Inv-loop μ-loop
 style-requires c κs = search needs
 
-slice-aggregate-text : tie.Need-slice-aggregate-text Inv-loop μ-loop
-slice-aggregate-text c = search needs
-
-text-requires : tie.Need-text-requires Inv-loop μ-loop
-text-requires c κs = search needs
+byte-requires : tie.Need-byte-requires Inv-loop μ-loop
+byte-requires c κs = search needs
 
 add-row : tie.Need-add-row Inv-loop μ-loop
 add-row c = search needs
@@ -62,8 +59,7 @@ program-rows-spec =
     row-line-requires
     slice-aggregate-style
     style-requires
-    slice-aggregate-text
-    text-requires
+    byte-requires
     add-row
     loop-less
     loop-again

@@ -4,10 +4,10 @@ use Rattle.screen_text.proofs.regions.region_lines.Statement.{statement
 use Rattle.screen_text.proofs.regions.region_lines.Tie as tie
 
 abbrev Inv-loop : tie.InvT-loop
-Inv-loop source names view regions memory opened first₀ left₀ at₀ t11 first left at = Unit {0}
+Inv-loop source names view regions memory opened first₀ left₀ at₀ first left at = Unit {0}
 
 abbrev μ-loop : tie.MeasureT-loop
-μ-loop source names view regions memory opened first₀ left₀ at₀ t11 first left at = left
+μ-loop source names view regions memory opened first₀ left₀ at₀ first left at = left
 
 loop-holds : tie.Need-loop-holds Inv-loop μ-loop
 loop-holds c = search needs
@@ -33,11 +33,8 @@ region-head-requires c κs = search needs
 cells-requires : tie.Need-cells-requires Inv-loop μ-loop
 cells-requires c κs = search needs
 
-slice-aggregate-text : tie.Need-slice-aggregate-text Inv-loop μ-loop
-slice-aggregate-text c = search needs
-
-text-requires : tie.Need-text-requires Inv-loop μ-loop
-text-requires c κs = search needs
+byte-requires : tie.Need-byte-requires Inv-loop μ-loop
+byte-requires c κs = search needs
 
 wrapping-add-u64-requires : tie.Need-wrapping-add-u64-requires Inv-loop μ-loop
 wrapping-add-u64-requires c κs = search needs
@@ -71,8 +68,7 @@ region-lines-spec =
     word-of-requires-3
     region-head-requires
     cells-requires
-    slice-aggregate-text
-    text-requires
+    byte-requires
     wrapping-add-u64-requires
     wrapping-add-usize-requires-3
     sub-left
