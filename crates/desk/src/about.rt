@@ -1,6 +1,4 @@
 // About the current row: a CALL's resolved arguments and access sets, a frame's references.
-use crate::calls::access_row;
-use crate::calls::table;
 use crate::explain::RESOLVE_WORDS;
 use crate::explain::family_at;
 use crate::explain::show_call;
@@ -17,6 +15,8 @@ use screen_text::print::reference;
 use screen_text::print::text;
 use screen_text::refusal::refused;
 use screen_text::view::View;
+use table_calls::access_row;
+use table_calls::table;
 use tables::instruction::CALL;
 use tables::instruction::FRAME;
 use tables::rows::INSTRUCTION_WIDTH;

@@ -1,6 +1,4 @@
 // A CALL in words: its resolved arguments, or why it does not resolve.
-use crate::calls::resolve_row;
-use crate::calls::table;
 use crate::state::Desk;
 use extern_call::rows::ResolveAnswer;
 use screen_text::errors::show_errors;
@@ -9,6 +7,8 @@ use screen_text::print::text;
 use screen_text::program::row_line;
 use screen_text::refusal::refused;
 use screen_text::resolved::show_resolved;
+use table_calls::resolve_row;
+use table_calls::table;
 use tables::instruction::CALL;
 use tables::rows::INSTRUCTION_WIDTH;
 use tables::rows::instruction_at;

@@ -1,6 +1,5 @@
-// What the console in a terminal works on: its state, the public calls on it, the screen, lines from the keyboard, replies, and more about a row.
+// What the console in a terminal works on: its state, the screen, lines from the keyboard, replies, and more about a row.
 pub mod about;
-pub mod calls;
 pub mod explain;
 pub mod input;
 pub mod reply;

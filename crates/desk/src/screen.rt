@@ -1,5 +1,4 @@
 // The screen: how far the program is, its rows with the current one marked, and the regions with their cells.
-use crate::calls::table;
 use crate::state::Desk;
 use crate::state::OPENED;
 use screen_text::print::number;
@@ -7,6 +6,7 @@ use screen_text::print::text;
 use screen_text::program::end_row;
 use screen_text::program::program_rows;
 use screen_text::regions::region_lines;
+use table_calls::table;
 use tables::rows::INSTRUCTION_WIDTH;
 use tables_text::file::TABLE_WORDS;
 use tables_text::names::NAME_WORDS;

@@ -1,5 +1,4 @@
 // A file read into the tables.
-use desk::calls::table;
 use desk::state::Desk;
 use desk::state::NO_FILE;
 use desk::state::OPENED;
@@ -11,6 +10,7 @@ use screen_text::print::style;
 use screen_text::print::text;
 use script::line::least;
 use script::line::part;
+use table_calls::table;
 use tables::rows::REGION_WIDTH;
 use tables_text::file::Reader;
 use tables_text::file::TABLE_WORDS;

@@ -55,6 +55,7 @@ fn start(path: &[u8], only_check: bool, desk: Desk) {
         return;
     }
     show(&buffer, &names, &tables, &memory, opened);
+    text(b"h shows the keys\n");
     turns(
         &mut buffer,
         &mut names,

@@ -1,11 +1,5 @@
 // What the keys do to the session: a file read, open, forward, back.
 use console::check::CheckAnswer;
-use desk::calls::check_tables;
-use desk::calls::front;
-use desk::calls::open_tables;
-use desk::calls::step_back;
-use desk::calls::step_forward;
-use desk::calls::table;
 use desk::explain::RESOLVE_WORDS;
 use desk::explain::explain_open;
 use desk::explain::family_at;
@@ -28,6 +22,12 @@ use screen_text::view::View;
 use script::line::least;
 use session::answer::OpenAnswer;
 use session::answer::StepAnswer;
+use table_calls::check_tables;
+use table_calls::front;
+use table_calls::open_tables;
+use table_calls::step_back;
+use table_calls::step_forward;
+use table_calls::table;
 use tables::instruction::CALL;
 use tables::refusal::TYPE_ERROR;
 use tables_text::file::TABLE_WORDS;
