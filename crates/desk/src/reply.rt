@@ -24,6 +24,9 @@ pub const REPLY_WORDS: usize = 260;
 
 const REPLY_ROWS: usize = 65;
 
+// The length of a reply that the input's end cut short.
+pub const NO_REPLY: usize = 264;
+
 // The rows typed so far, and whether the reply is at its end.
 struct Asked {
     rows: usize,
@@ -144,7 +147,7 @@ fn is_empty(line: &[u8]) -> bool {
     word.start >= word.end
 }
 
-// One more row, up to an empty line. After one row too many no more is asked for.
+// One more row, up to an empty line. After one row too many no more is asked for. The rows are one more still where the input ended.
 fn ask_row(
     rows: &[u64],
     count: usize,
@@ -154,6 +157,12 @@ fn ask_row(
 ) -> Asked {
     let mut line = [0; LINE];
     let typed = ask(b"reply: ", &mut line, view);
+    if typed.ended {
+        return Asked {
+            rows: REPLY_ROWS + 1,
+            ended: true,
+        };
+    }
     let words = typed_line(&line, typed);
     if is_empty(words) {
         return Asked {
@@ -174,7 +183,7 @@ fn ask_row(
     }
 }
 
-// Asks for rows; the reply's length in words.
+// Asks for rows; the reply's length in words, or `NO_REPLY`.
 pub fn ask_reply(
     rows: &[u64; RESOLVE_WORDS],
     count: usize,
@@ -193,5 +202,5 @@ pub fn ask_reply(
         asked = ask_row(rows, count, reply, asked.rows, view);
         turns -= 1;
     }
-    asked.rows % (REPLY_ROWS + 1) * 4
+    asked.rows % (REPLY_ROWS + 2) * 4
 }

@@ -5,6 +5,7 @@ use desk::explain::explain_open;
 use desk::explain::family_at;
 use desk::explain::show_call;
 use desk::explain::this_row;
+use desk::reply::NO_REPLY;
 use desk::reply::REPLY_WORDS;
 use desk::reply::ask_reply;
 use desk::state::Desk;
@@ -213,6 +214,10 @@ pub fn forward_key(
     let lengths = desk.lengths;
     let mut reply = [0; REPLY_WORDS];
     let length = reply_for(source, names, tables, desk, &mut reply);
+    if length == NO_REPLY {
+        text(b"no reply, so no step\n");
+        return desk;
+    }
     let answer = step_forward(
         tables,
         lengths,
