@@ -14,14 +14,19 @@ use script::line::line_at;
 use script::line::part;
 use script::line::word_at;
 
+// A number past every cell and entry stays past them.
+fn capped(n: u64) -> usize {
+    if n < 0x10000 { n as usize } else { 0xFFFF }
+}
+
 fn put_cell(memory: &mut [u64], words: [u64; 16]) {
-    let at = (words[0] % 0x10000) as usize * 2;
+    let at = capped(words[0]) % 0x10000 * 2;
     put(memory, at, words[1]);
     put(memory, at + 1, words[2]);
 }
 
 fn put_entry(journal: &mut [u64], words: [u64; 16]) {
-    let at = (words[0] % 0x10000) as usize * 3;
+    let at = capped(words[0]) % 0x10000 * 3;
     put(journal, at, words[1]);
     put(journal, at + 1, words[2]);
     put(journal, at + 2, words[3]);

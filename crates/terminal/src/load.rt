@@ -23,6 +23,9 @@ use tables_text::word::NO_WORD;
 
 const MOST_CELLS: usize = 4096;
 
+// Two journal entries more than the limit, so that one too long can be tried.
+const MOST_ENTRIES: usize = 2050;
+
 // The cells that the regions ask for, at most the limit.
 fn cell_count(regions: &[u64]) -> usize {
     let mut total = 0;
@@ -70,7 +73,7 @@ fn lent(desk: Desk, reader: Reader, cells: usize) -> Desk {
     } else {
         reader.memory
     };
-    next.journal = reader.entries % 4096 * 3;
+    next.journal = least(reader.entries, MOST_ENTRIES) % 4096 * 3;
     next.view = named;
     next.state = OPENED;
     next
