@@ -11,7 +11,7 @@ use Rattle.tables.specs.Rows.{instructionAt}
 use Rattle.tables.specs.declared.rows.Instruction.{Instruction}
 use Rattle.operands.specs.Address.{namesOf, addressesOf}
 use Rattle.machine.specs.Families.{familyOf}
-use Rattle.reply.specs.Call.{callOutcome}
+use Rattle.call_reply.specs.Call.{callOutcome}
 use Rattle.journal.specs.declared.cells.Write.{Write}
 use Rattle.machine.specs.declared.outcome.RowOutcome.{RowOutcome}
 use Rattle.machine.specs.declared.outcome.RowOutcome.the-variants.{Refused, NoWrites, One, Two}

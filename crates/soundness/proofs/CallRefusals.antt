@@ -10,7 +10,7 @@ use Rattle.tables.specs.declared.rows.Instruction.{Instruction}
 use Rattle.extern_call.specs.Call.{foundExtern, findCall, isCounted, allResolve, resolvesCall}
 use Rattle.extern_call.specs.declared.call.Call.{Call}
 use Rattle.journal.specs.declared.cells.Write.{Write}
-use Rattle.reply.specs.Call as M
+use Rattle.call_reply.specs.Call as M
 use Rattle.machine.proofs.Ends.{Ends, Ruled, fine, turned, bind, tested}
 
 -- of the result nothing is asked

@@ -30,11 +30,11 @@ use Rattle.journal.specs.declared.cells.Write.{Write}
 use Rattle.journal.specs.Each.{Each, none, also}
 use Rattle.operands.specs.Address.{addressOf}
 use Rattle.operands.specs.Cells.{write}
-use Rattle.reply.specs.Call as M
-use Rattle.reply.specs.declared.reply.Reply.{Reply}
+use Rattle.call_reply.specs.Call as M
+use Rattle.call_reply.specs.declared.reply.Reply.{Reply}
 use Rattle.operands.proofs.Binds.{bound}
 use Rattle.operands.proofs.AddressLaws.{index-below}
-use Rattle.reply.proofs.ReplyLaws.{Judged, judged-ok, scalar-below, replied-argument}
+use Rattle.call_reply.proofs.ReplyLaws.{Judged, judged-ok, scalar-below, replied-argument}
 use Rattle.soundness.specs.Sound.{writeSet, GoodWrite}
 use Rattle.soundness.proofs.Regions.{KindsAllowed, Region, region-of, cell-of}
 use Rattle.soundness.proofs.Values.{Kept, kept}

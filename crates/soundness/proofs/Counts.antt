@@ -11,10 +11,10 @@ use Rattle.tables.specs.Tables.{Tables}
 use Rattle.tables.specs.declared.rows.Instruction.{Instruction}
 use Rattle.tables.proofs.Loaded.{both}
 use Rattle.journal.specs.declared.cells.Write.{Write}
-use Rattle.reply.specs.Call.{replyRows, replyLengthFits, replyFits, replyWrites, callJudged, callOutcome}
+use Rattle.call_reply.specs.Call.{replyRows, replyLengthFits, replyFits, replyWrites, callJudged, callOutcome}
 use Rattle.machine.specs.Outcome.{isCall, plainOutcome, outcomeOf}
 use Rattle.operands.proofs.Binds.{bound}
-use Rattle.reply.proofs.ReplyLaws.{judged-ok, reply-writes-length}
+use Rattle.call_reply.proofs.ReplyLaws.{judged-ok, reply-writes-length}
 use Rattle.machine.proofs.WritesLaws.{changesOf, writes-count}
 
 -- "exchange 2 .., call one per reply row"

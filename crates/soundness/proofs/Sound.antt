@@ -17,7 +17,7 @@ use Rattle.type_check.proofs.CheckLaws.{rule-passes}
 use Rattle.journal.specs.declared.cells.Write.{Write}
 use Rattle.journal.specs.Each.{Each}
 use Rattle.journal.proofs.CellsLaws.{each-map}
-use Rattle.reply.specs.Call.{callOutcome}
+use Rattle.call_reply.specs.Call.{callOutcome}
 use Rattle.machine.specs.Outcome.{isCall, plainOutcome, outcomeOf, outcomeAt}
 use Rattle.machine.proofs.Ends.{gives, no-18}
 use Rattle.soundness.specs.Sound.{Checked, Typed, GoodWrite, Sound}

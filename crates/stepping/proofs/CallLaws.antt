@@ -19,13 +19,13 @@ use Rattle.extern_call.specs.declared.call.CallResolution.the-variants as C
 use Rattle.extern_call.specs.declared.resolved.ResolvedCallArgument.the-variants.{Vector, MemoryReference, Immediate}
 use Rattle.extern_call.proofs.ResolvedLaws.{resolved-facts}
 use Rattle.journal.specs.declared.cells.Write.{Write}
-use Rattle.reply.specs.Call.{replyRows, replyAt, replyLengthFits, hits, cellHit, ofResolved, replyRowFits, replyFits, replyWrite, replyWritesFrom, replyWrites, callJudged}
+use Rattle.call_reply.specs.Call.{replyRows, replyAt, replyLengthFits, hits, cellHit, ofResolved, replyRowFits, replyFits, replyWrite, replyWritesFrom, replyWrites, callJudged}
 use Rattle.operands.specs.Reach.{There, Layout}
-use Rattle.reply.specs.Reach.{HitWithin, Replied}
-use Rattle.reply.specs.declared.reply.Reply.{Reply}
+use Rattle.call_reply.specs.Reach.{HitWithin, Replied}
+use Rattle.call_reply.specs.declared.reply.Reply.{Reply}
 use Rattle.operands.proofs.AddressLaws.{address-within}
 use Rattle.operands.proofs.Reaches.{in-cells}
-use Rattle.reply.proofs.ReplyLaws.{Judged, judged-ok, judged-replied, replied-hit}
+use Rattle.call_reply.proofs.ReplyLaws.{Judged, judged-ok, judged-replied, replied-hit}
 use Rattle.stepping.specs.Step.{Replying}
 
 module _ (regions parameters arguments : List ℕ) (call : Call) where

@@ -1,6 +1,6 @@
 use Rattle.tables.specs.Outcome.{_>>=_, seen}
 use Rattle.extern_call.specs.Call.{callAnswer}
-use Rattle.reply.specs.Call.{callOutcome}
+use Rattle.call_reply.specs.Call.{callOutcome}
 use Rattle.session.specs.Forward.{stepped}
 use Rattle.stepping.specs.Step.{rowLeaves}
 use Rattle.stepping.proofs.CallLaws.{judged-replying}

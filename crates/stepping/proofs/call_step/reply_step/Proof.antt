@@ -1,8 +1,8 @@
 use mathlib.Core.Path.{sym, _∙_}
 use native.Mathlib.Omega.{arith}
 use borrow.Author.Tests.{not-true, not-false}
-use Rattle.reply.specs.Call.{replyRows, replyWrites}
-use Rattle.reply.proofs.ReplyLaws.{reply-writes-length}
+use Rattle.call_reply.specs.Call.{replyRows, replyWrites}
+use Rattle.call_reply.proofs.ReplyLaws.{reply-writes-length}
 use Rattle.stepping.proofs.StepLaws.{room-words, full, roomy}
 use borrow.Author.Needs.{needs}
 use Rattle.stepping.proofs.call_step.reply_step.Statement.{statement}
