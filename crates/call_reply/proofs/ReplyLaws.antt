@@ -17,7 +17,7 @@ use Rattle.tables.specs.declared.lookup.Found.{Found}
 use Rattle.tables.specs.declared.lookup.Found.the-variants.{At, Nothing}
 use Rattle.tables.specs.declared.rows.Instruction.{Instruction}
 use Rattle.tables.proofs.FirstLaws.{every-row}
-use Rattle.tables.proofs.Loaded.{both, passed}
+use Rattle.loader.proofs.Loaded.{both, passed}
 use Rattle.extern_call.specs.Call.{resolutionAt, resolvesCall, CallRanges, Counted, Paired}
 use Rattle.extern_call.specs.declared.call.Call.{Call}
 use Rattle.extern_call.specs.declared.call.CallResolution.{CallResolution}

@@ -4,8 +4,8 @@ use mathlib.Core.Bool.{true}
 use mathlib.Core.Path.{_≡_}
 use Rattle.tables.specs.Tables.{Tables}
 use Rattle.tables.specs.Rows.{instructionAt}
-use Rattle.tables.specs.Load.{chosenRow}
-use Rattle.tables.proofs.Loaded.{Loaded, chosen}
+use Rattle.loader.specs.Load.{chosenRow}
+use Rattle.loader.proofs.Loaded.{Loaded, chosen}
 use Rattle.extern_call.specs.Call.{CallRanges}
 use Rattle.extern_call.proofs.CallLaws.{loaded-ranges}
 

@@ -2,7 +2,7 @@
 use Prim.Native.Nat.{ℕ}
 use Rattle.tables.specs.Refusal.{typeError}
 use Rattle.tables.specs.Tables.{Tables}
-use Rattle.tables.specs.Load.{loadOf}
+use Rattle.loader.specs.Load.{loadOf}
 use Rattle.type_check.specs.Check.{checkOf}
 use Rattle.type_check.specs.declared.error.Verdict.{Verdict}
 use Rattle.type_check.specs.declared.error.Verdict.the-variants as T

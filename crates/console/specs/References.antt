@@ -1,7 +1,7 @@
 -- 01, Order: "Walk (nodes alone; the rest take every table): 1, 2."
 use Prim.Native.Nat.{ℕ}
 use mathlib.Core.List.{List, [], _∷_}
-use Rattle.tables.specs.Load.{loadNodesOf}
+use Rattle.loader.specs.Load.{loadNodesOf}
 use Rattle.memory.specs.References.{nextIn}
 use Rattle.memory.specs.declared.Next.{Next}
 use Rattle.memory.specs.declared.Next.the-variants.{Reference, End}

@@ -5,9 +5,9 @@ ghost use Rattle.extern_call.specs.Access.{accessAnswer};
 ghost use Rattle.console.specs.Access.{accessTables};
 use extern_call::access::AccessAnswer;
 use extern_call::access::access_call;
+use loader::load::Load;
+use loader::load::load_row;
 use tables::instruction::CALL;
-use tables::load::Load;
-use tables::load::load_row;
 use tables::rows::instruction_at;
 
 pub fn access(

@@ -2,8 +2,8 @@
 ghost use mathlib.Core.Path.{_≡_};
 ghost use Rattle.tables.specs.Tables.{tablesOf};
 ghost use Rattle.console.specs.Check.{verdictAnswer, checkTables};
-use tables::load::Load;
-use tables::load::load_tables;
+use loader::load::Load;
+use loader::load::load_tables;
 use type_check::error::TypeError;
 use type_check::error::Verdict;
 use type_check::program::check_program;

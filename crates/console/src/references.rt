@@ -1,10 +1,10 @@
 // The references of one expression, one call at a time.
 ghost use mathlib.Core.Path.{_≡_};
 ghost use Rattle.console.specs.References.{referencesTable};
+use loader::load::Load;
+use loader::load::load_nodes;
 use memory::Stepped;
 use memory::next_in;
-use tables::load::Load;
-use tables::load::load_nodes;
 
 // A refusal by its number, or what the walk hands out with the place to go on from.
 pub enum WalkAnswer {

@@ -5,9 +5,9 @@ ghost use Rattle.extern_call.specs.Rows.{resolveAnswer};
 ghost use Rattle.console.specs.Resolve.{resolveTables};
 use extern_call::rows::ResolveAnswer;
 use extern_call::rows::resolve_call;
+use loader::load::Load;
+use loader::load::load_row;
 use tables::instruction::CALL;
-use tables::load::Load;
-use tables::load::load_row;
 use tables::rows::instruction_at;
 
 pub fn resolve(

@@ -13,7 +13,7 @@ use Rattle.tables.specs.declared.lookup.Found.{Found}
 use Rattle.tables.specs.declared.lookup.Found.the-variants.{At, Nothing}
 use Rattle.tables.specs.declared.rows.Instruction.{Instruction}
 use Rattle.tables.specs.Tables.{Tables}
-use Rattle.tables.proofs.Loaded.{Loaded, call-arguments, extern-parameters}
+use Rattle.loader.proofs.Loaded.{Loaded, call-arguments, extern-parameters}
 use Rattle.tables.proofs.LookupLaws.{lookup-within}
 use Rattle.extern_call.specs.Call.{callOf, foundExtern, findCall, arityOf, placeOf, CallRanges, Ranges, Counted, Paired}
 use Rattle.extern_call.specs.Access.{lowerOf, pairedCount}

@@ -11,7 +11,7 @@ use Rattle.tables.specs.declared.lookup.Found.{Found}
 use Rattle.tables.specs.declared.lookup.Found.the-variants.{At, Nothing}
 use Rattle.tables.specs.declared.rows.Argument.{Argument}
 use Rattle.tables.specs.declared.rows.Parameter.{Parameter}
-use Rattle.tables.proofs.Loaded.{both}
+use Rattle.loader.proofs.Loaded.{both}
 use Rattle.extern_call.specs.Argument.{argumentOf, namesOf, indexOf}
 use Rattle.extern_call.specs.Vectors.{sameVector, declaredVector, expectedVector}
 use Rattle.extern_call.specs.Resolved.{resolvedName, resolvedMutable}

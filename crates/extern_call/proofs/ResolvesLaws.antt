@@ -11,7 +11,7 @@ use lib.Seq.{getD-append-add}
 use Rattle.tables.specs.Refusal.{argumentCount, argumentErrors}
 use Rattle.tables.specs.Outcome.{Outcome, ok, refuse, _>>=_, _>>_, need}
 use Rattle.tables.specs.declared.rows.Instruction.{Instruction}
-use Rattle.tables.proofs.Loaded.{passed}
+use Rattle.loader.proofs.Loaded.{passed}
 use Rattle.tables.proofs.FirstLaws.{every-row}
 use Rattle.extern_call.specs.Call.{findCall, arityOf, isCounted, isResolved, resolutionAt, allResolve, resolvesCall, CallRanges, Counted}
 use Rattle.extern_call.specs.Resolved.{resolvedRow}

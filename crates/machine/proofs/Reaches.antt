@@ -7,7 +7,7 @@ use native.Mathlib.Omega.{arith}
 use borrow.Author.Tests.{eq-eqb, ltb-true, eqb-true}
 use lib.Dec.{eqb, ltb}
 use Rattle.tables.specs.Outcome.{ok}
-use Rattle.tables.specs.Instruction.{formAllowed}
+use Rattle.loader.specs.Instruction.{formAllowed}
 use Rattle.tables.specs.declared.rows.Instruction.{Instruction}
 use Rattle.operands.specs.Address.{indexesFirst, indexesSecond, namesSource, namesOf, addressesOf}
 use Rattle.operands.specs.Reach.{There, SourceThere, Named}

@@ -9,7 +9,7 @@ use Rattle.tables.specs.Outcome.{Outcome, ok, refuse, _>>_, need}
 use Rattle.tables.specs.First.{first, every}
 use Rattle.tables.specs.Tables.{Tables, tablesOf}
 use Rattle.tables.specs.Rows.{instructionRows, instructionAt}
-use Rattle.tables.specs.Load.{loadOf}
+use Rattle.loader.specs.Load.{loadOf}
 use Rattle.tables.specs.Cells.{cellCount}
 use Rattle.type_check.specs.Check.{checkOf}
 use Rattle.type_check.specs.declared.error.TypeError.{TypeError}

@@ -5,8 +5,8 @@ ghost use Rattle.opening.specs.Open.{opening, openCells, Openable};
 use crate::program::program_look;
 use crate::zero::zero_cells;
 use journal::position::Position;
+use loader::load::Load;
 use session::answer::OpenAnswer;
-use tables::load::Load;
 use type_check::error::Verdict;
 use type_check::program::check_program;
 

@@ -2,12 +2,12 @@
 ghost use mathlib.Core.Path.{_≡_};
 ghost use Prim.Native.Nat.{_<_};
 ghost use Rattle.tables.specs.Rows.{instructionRows};
-ghost use Rattle.tables.specs.Load.{loadOutcome};
+ghost use Rattle.loader.specs.Load.{loadOutcome};
 ghost use Rattle.opening.specs.Open.{callTables, CallsInside, noOther, callLook, callsLook, programLook};
 use extern_call::call::CallAnswer;
 use extern_call::call::resolves;
+use loader::load::Load;
 use tables::instruction;
-use tables::load::Load;
 use tables::refusal::OTHER_INSTRUCTION;
 use tables::rows::INSTRUCTION_WIDTH;
 use tables::rows::instruction_at;

@@ -15,7 +15,7 @@ use Rattle.tables.specs.declared.lookup.Found.{Found}
 use Rattle.tables.specs.declared.lookup.Found.the-variants.{At, Nothing}
 use Rattle.tables.proofs.CellsLaws.{start-within}
 use Rattle.tables.proofs.LookupLaws.{lookup-within}
-use Rattle.tables.proofs.Loaded.{both, passed}
+use Rattle.loader.proofs.Loaded.{both, passed}
 use Rattle.operands.specs.Address.{addressOf, indexFits, indexedOf, foundRegion, namedOf, writtenOf}
 
 module _ (regions : List ℕ) where

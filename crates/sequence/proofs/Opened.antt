@@ -9,9 +9,9 @@ use lib.ListN.{length, drop}
 use borrow.Author.Tests.{leb-true}
 use Rattle.tables.specs.Outcome.{Outcome, ok, refuse, _>>_}
 use Rattle.tables.specs.Tables.{Tables}
-use Rattle.tables.specs.Load.{loadOf}
+use Rattle.loader.specs.Load.{loadOf}
 use Rattle.tables.specs.Cells.{cellCount, cellsOf}
-use Rattle.tables.proofs.Loaded.{both, passed}
+use Rattle.loader.proofs.Loaded.{both, passed}
 use Rattle.tables.proofs.CellsLaws.{cells-given}
 use Rattle.type_check.specs.Check.{checkOf}
 use Rattle.type_check.specs.declared.error.Verdict.{Verdict}

@@ -12,12 +12,12 @@ use Rattle.tables.specs.Bench.{declarations}
 use Rattle.tables.specs.Outcome.{_>>=_, _>>_, need}
 use Rattle.tables.specs.First.{first, every}
 use Rattle.tables.specs.Tables.{Tables, tablesOf}
-use Rattle.tables.specs.Shape.{wholeRows, wholeTables}
-use Rattle.tables.specs.Allowed.{regionAllowed, nodeAllowed, regionsAllowed, externsAllowed, parametersAllowed, nodesAllowed, argumentsAllowed}
-use Rattle.tables.specs.Instruction.{operatorsOf, formAllowed, sourceAllowed, operandsAllowed, instructionAllowed, instructionsAllowed}
+use Rattle.loader.specs.Shape.{wholeRows, wholeTables}
+use Rattle.loader.specs.Allowed.{regionAllowed, nodeAllowed, regionsAllowed, externsAllowed, parametersAllowed, nodesAllowed, argumentsAllowed}
+use Rattle.loader.specs.Instruction.{operatorsOf, formAllowed, sourceAllowed, operandsAllowed, instructionAllowed, instructionsAllowed}
 use Rattle.tables.specs.Tree.{arityOf, treesFrom, inside, oneTree}
 use Rattle.tables.specs.Lookup.{lookupOf, lookupAmong, distinct}
-use Rattle.tables.specs.Load.{loadOf, allowedTables, distinctNames}
+use Rattle.loader.specs.Load.{loadOf, allowedTables, distinctNames}
 use Rattle.tables.specs.Cells.{start, cellCount, cellsOf}
 use Rattle.type_check.specs.Rule.{arithmeticRule, sourceRule, logicSource, logicRule, moveRule, exchangeRule, loadKinds, loadRule, storeSource, storeRule, ruleOf}
 use Rattle.type_check.specs.Codes.{kindCode, codeOf, operandCode, sourceCode, rowRule}

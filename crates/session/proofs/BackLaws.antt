@@ -8,7 +8,7 @@ use lib.ListN.{length}
 use lib.Dec.{ltb}
 use borrow.Author.Tests.{ltb-true}
 use Rattle.tables.specs.Outcome.{ok}
-use Rattle.tables.proofs.Loaded.{passed}
+use Rattle.loader.proofs.Loaded.{passed}
 use Rattle.journal.specs.declared.position.Position.{Position}
 use Rattle.journal.specs.Entries.{entriesAt}
 use Rattle.journal.specs.Restore.{present}

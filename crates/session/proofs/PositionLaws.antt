@@ -4,7 +4,7 @@ use mathlib.Core.Bool.{true}
 use mathlib.Core.Path.{_≡_}
 use lib.Dec.{leb}
 use borrow.Author.Tests.{leb-true}
-use Rattle.tables.proofs.Loaded.{both}
+use Rattle.loader.proofs.Loaded.{both}
 use Rattle.journal.specs.declared.position.Position.{Position}
 use Rattle.session.specs.Forward.{positionFits}
 

@@ -10,9 +10,9 @@ use lib.Dec.{eqb, leb}
 use borrow.Author.Tests.{eqb-true, leb-true}
 use Rattle.tables.specs.Outcome.{Outcome, ok, refuse, _>>=_, _>>_}
 use Rattle.tables.specs.Tables.{Tables}
-use Rattle.tables.specs.Load.{loadOf}
+use Rattle.loader.specs.Load.{loadOf}
 use Rattle.tables.specs.Cells.{cellCount, cellsOf}
-use Rattle.tables.proofs.Loaded.{both, passed}
+use Rattle.loader.proofs.Loaded.{both, passed}
 use Rattle.tables.proofs.CellsLaws.{cells-given}
 use Rattle.operands.proofs.Binds.{bound}
 use Rattle.session.specs.Prepare.{entriesOf, buffersFit, preparedOf, Ready}

@@ -8,7 +8,7 @@ use lib.Dec.{eqb, leb}
 use Rattle.tables.specs.Refusal.{bufferSize}
 use Rattle.tables.specs.Outcome.{Outcome, ok, refuse, _>>=_, _>>_, need}
 use Rattle.tables.specs.Tables.{Tables}
-use Rattle.tables.specs.Load.{loadOf}
+use Rattle.loader.specs.Load.{loadOf}
 use Rattle.tables.specs.Cells.{cellCount, cellsOf}
 use Rattle.session.specs.declared.prepare.Prepared.{Prepared}
 use Rattle.session.specs.declared.prepare.Prepared.the-variants.{Cells, Refused}

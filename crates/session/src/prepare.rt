@@ -5,10 +5,10 @@ ghost use Rattle.tables.specs.Tables.{tablesOf};
 ghost use Rattle.session.specs.Prepare.{buffersFit, preparedOf, preparedOutcome};
 use journal::cells::CELL_WIDTH;
 use journal::entries::ENTRY_WIDTH;
+use loader::load::Load;
+use loader::load::load_tables;
 use tables::cells::Cells;
 use tables::cells::cell_count;
-use tables::load::Load;
-use tables::load::load_tables;
 use tables::refusal::BUFFER_SIZE;
 use tables::refusal::TOO_MANY_CELLS;
 

@@ -15,7 +15,7 @@ use Rattle.tables.specs.declared.lookup.Found.the-variants as L
 use Rattle.tables.specs.declared.rows.Instruction.{Instruction}
 use Rattle.tables.proofs.FirstLaws.{every-row}
 use Rattle.tables.proofs.LookupLaws.{lookup-within, lookup-named}
-use Rattle.tables.proofs.Loaded.{both}
+use Rattle.loader.proofs.Loaded.{both}
 use Rattle.extern_call.specs.Call.{resolutionAt}
 use Rattle.extern_call.specs.Access.{has}
 use Rattle.extern_call.specs.Resolved.{resolvedName, resolvedMutable}

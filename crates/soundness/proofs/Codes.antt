@@ -14,7 +14,7 @@ use Rattle.tables.specs.declared.lookup.Found.{Found}
 use Rattle.tables.specs.declared.lookup.Found.the-variants.{At, Nothing}
 use Rattle.tables.specs.declared.rows.Instruction.{Instruction}
 use Rattle.tables.proofs.FirstLaws.{every-row}
-use Rattle.tables.proofs.Loaded.{both}
+use Rattle.loader.proofs.Loaded.{both}
 use Rattle.type_check.specs.Judgement.{Judgement, pass, passes}
 use Rattle.type_check.specs.Numbers.{absent}
 use Rattle.type_check.specs.Rule as T

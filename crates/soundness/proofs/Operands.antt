@@ -7,7 +7,7 @@ use mathlib.Core.Path.{_≡_, refl, sym}
 use native.Mathlib.Omega.{arith}
 use lib.Dec.{eqb}
 use borrow.Author.Tests.{eqb-true, ne-eqb, le-ltb}
-use Rattle.tables.specs.Instruction.{formAllowed}
+use Rattle.loader.specs.Instruction.{formAllowed}
 use Rattle.tables.specs.declared.rows.Instruction.{Instruction}
 use Rattle.type_check.specs.Codes.{firstCode, secondCode, referenceCode, operandCode, sourceCode}
 use Rattle.operands.specs.Address.{namesFirst, indexesFirst, namesSecond, indexesSecond, namesSource, namesOf, addressesOf}

@@ -9,7 +9,7 @@ use lib.ListN.{length}
 use lib.Dec.{eqb}
 use borrow.Author.Tests.{ltb-true}
 use Rattle.tables.specs.Refusal.{otherInstruction, unfitReply}
-use Rattle.tables.specs.Instruction.{operatorsOf, formAllowed}
+use Rattle.loader.specs.Instruction.{operatorsOf, formAllowed}
 use Rattle.tables.specs.declared.rows.Instruction.{Instruction}
 use Rattle.type_check.specs.Judgement.{pass}
 use Rattle.type_check.specs.Rule.{ruleOf}

@@ -10,9 +10,9 @@ use Rattle.tables.specs.Refusal.{noRule}
 use Rattle.tables.specs.Outcome.{Outcome, ok, refuse}
 use Rattle.tables.specs.Tables.{Tables}
 use Rattle.tables.specs.Rows.{instructionRows, instructionAt}
-use Rattle.tables.specs.Instruction.{operatorsOf, formAllowed, instructionAllowed}
+use Rattle.loader.specs.Instruction.{operatorsOf, formAllowed, instructionAllowed}
 use Rattle.tables.specs.declared.rows.Instruction.{Instruction}
-use Rattle.tables.proofs.Loaded.{Loaded, loaded, both, region-kind, instruction-allowed}
+use Rattle.loader.proofs.Loaded.{Loaded, loaded, both, region-kind, instruction-allowed}
 use Rattle.type_check.proofs.CheckLaws.{rule-passes}
 use Rattle.journal.specs.declared.cells.Write.{Write}
 use Rattle.journal.specs.Each.{Each}

@@ -10,7 +10,7 @@ use Rattle.tables.specs.Outcome.{Outcome, ok, refuse}
 use Rattle.tables.specs.Tables.{Tables}
 use Rattle.tables.specs.Rows.{regionName, instructionRows, instructionAt}
 use Rattle.tables.specs.Cells.{cellCount}
-use Rattle.tables.specs.Load.{loadOf}
+use Rattle.loader.specs.Load.{loadOf}
 use Rattle.tables.specs.declared.rows.Instruction.{Instruction}
 use Rattle.type_check.specs.Check.{checkOf}
 use Rattle.type_check.specs.declared.error.Verdict.the-variants.{Accepted}

@@ -10,7 +10,7 @@ use borrow.Author.Tests.{leb-true}
 use Rattle.tables.specs.Outcome.{ok}
 use Rattle.tables.specs.Cells.{cellCount}
 use Rattle.tables.specs.declared.rows.Instruction.{Instruction}
-use Rattle.tables.proofs.Loaded.{both}
+use Rattle.loader.proofs.Loaded.{both}
 use Rattle.tables.proofs.LookupLaws.{lookup-within}
 use Rattle.extern_call.specs.Call.{CallRanges, resolutionAt}
 use Rattle.extern_call.specs.declared.call.Call.{Call}

@@ -8,7 +8,7 @@ use lib.Dec.{ltb}
 use Rattle.tables.specs.Refusal.{foreignPosition, atEnd}
 use Rattle.tables.specs.Outcome.{Outcome, ok, refuse, _>>=_, _>>_, need}
 use Rattle.tables.specs.Rows.{instructionRows, instructionAt}
-use Rattle.tables.specs.Instruction.{formAllowed}
+use Rattle.loader.specs.Instruction.{formAllowed}
 use Rattle.tables.specs.declared.rows.Instruction.{Instruction}
 use Rattle.extern_call.specs.Call.{CallRanges}
 use Rattle.extern_call.specs.declared.call.Call.{Call}

@@ -1,9 +1,9 @@
 // The order of refusals 1, 2 and 3; refusal 10.
 use crate::probe::number_of;
 use libc::STDOUT_FILENO;
+use loader::load::load_tables;
 use tables::cells::Cells;
 use tables::cells::cell_count;
-use tables::load::load_tables;
 use tables::refusal::TOO_MANY_CELLS;
 
 // The arguments have a row or less, the second region has a name, the instruction a family.

@@ -3,10 +3,10 @@ use crate::good;
 use crate::names::print_table;
 use crate::names::word_name;
 use libc::STDOUT_FILENO;
-use tables::load::Load;
-use tables::load::load_nodes;
-use tables::load::load_row;
-use tables::load::load_tables;
+use loader::load::Load;
+use loader::load::load_nodes;
+use loader::load::load_row;
+use loader::load::load_tables;
 
 pub enum Table {
     Regions,

@@ -7,4 +7,3 @@ pub mod EndsLaws
 pub mod LookupLaws
 pub mod MarksLaws
 pub mod CellsLaws
-pub mod Loaded

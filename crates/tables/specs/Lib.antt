@@ -7,9 +7,5 @@ pub mod Lookup
 pub mod Marks
 pub mod Tree
 pub mod Ends
-pub mod Shape
-pub mod Allowed
-pub mod Instruction
 pub mod Cells
-pub mod Load
 pub mod Bench

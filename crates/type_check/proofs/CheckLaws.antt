@@ -12,7 +12,7 @@ use lib.ListN.{List·getD-eq-default}
 use Rattle.tables.specs.Tables.{Tables}
 use Rattle.tables.specs.Rows.{instructionRows, instructionAt}
 use Rattle.tables.specs.declared.rows.Instruction.{Instruction}
-use Rattle.tables.proofs.Loaded.{Loaded, frame-inside}
+use Rattle.loader.proofs.Loaded.{Loaded, frame-inside}
 use Rattle.type_check.specs.Judgement.{Judgement, pass, fail, verdictAt}
 use Rattle.type_check.specs.Rule.{rules, ruleOf}
 use Rattle.type_check.specs.Codes.{firstCode, secondCode, referenceCode, operandCode, sourceCode, rowRule}

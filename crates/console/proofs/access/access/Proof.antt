@@ -1,8 +1,8 @@
 use mathlib.Core.Path.{ap, _∙_}
 use Rattle.tables.specs.Outcome.{seen}
-use Rattle.tables.specs.Load.{loadOutcome}
+use Rattle.loader.specs.Load.{loadOutcome}
 use Rattle.tables.specs.declared.rows.Instruction.{Instruction}
-use Rattle.tables.proofs.Loaded.{loaded-row, chosen}
+use Rattle.loader.proofs.Loaded.{loaded-row, chosen}
 use Rattle.console.specs.Access.{accessTables}
 use Rattle.console.proofs.Facts.{call-ranges}
 use Rattle.extern_call.specs.Access.{accessCall}
@@ -12,7 +12,7 @@ use Rattle.console.proofs.access.access.Tie as tie
 use Rattle.console.proofs.access.access.Reads as reads
 use Rattle.console.proofs.access.access.Lts as lts
 use Rattle.extern_call.proofs.access.access_call.Reads as access-call-reads
-use Rattle.tables.proofs.load.load_row.Reads as load-row-reads
+use Rattle.loader.proofs.load.load_row.Reads as load-row-reads
 use Rattle.tables.proofs.rows.instruction_at.Reads as instruction-at-reads
 
 load-row-requires : tie.Need-load-row-requires

@@ -1,7 +1,7 @@
 use mathlib.Core.Path.{ap, _∙_}
 use Rattle.tables.specs.Outcome.{seen}
-use Rattle.tables.specs.Load.{loadOutcome}
-use Rattle.tables.proofs.Loaded.{loaded}
+use Rattle.loader.specs.Load.{loadOutcome}
+use Rattle.loader.proofs.Loaded.{loaded}
 use Rattle.console.specs.Check.{verdictAnswer, checkTables}
 use Rattle.type_check.proofs.CheckLaws.{loaded-frames}
 use borrow.Author.Needs.{needs}
@@ -10,7 +10,7 @@ use Rattle.console.proofs.check.check.Tie as tie
 use Rattle.console.proofs.check.check.Reads as reads
 use Rattle.console.proofs.check.check.Lts as lts
 use Rattle.console.proofs.check.verdict_answer.Reads as verdict-answer-reads
-use Rattle.tables.proofs.load.load_tables.Reads as load-tables-reads
+use Rattle.loader.proofs.load.load_tables.Reads as load-tables-reads
 use Rattle.type_check.proofs.program.check_program.Reads as check-program-reads
 
 load-tables-requires : tie.Need-load-tables-requires

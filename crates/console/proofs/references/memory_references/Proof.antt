@@ -1,7 +1,7 @@
 use mathlib.Core.Path.{ap}
 use Rattle.tables.specs.Outcome.{seen}
-use Rattle.tables.specs.Load.{loadOutcome}
-use Rattle.tables.proofs.Loaded.{loaded-nodes}
+use Rattle.loader.specs.Load.{loadOutcome}
+use Rattle.loader.proofs.Loaded.{loaded-nodes}
 use Rattle.console.specs.References.{referencesTable}
 use Rattle.console.specs.declared.references.WalkAnswer.the-variants.{Went}
 use borrow.Author.Needs.{needs}
@@ -10,7 +10,7 @@ use Rattle.console.proofs.references.memory_references.Tie as tie
 use Rattle.console.proofs.references.memory_references.Reads as reads
 use Rattle.console.proofs.references.memory_references.Lts as lts
 use Rattle.memory.proofs.next_in.Reads as next-in-reads
-use Rattle.tables.proofs.load.load_nodes.Reads as load-nodes-reads
+use Rattle.loader.proofs.load.load_nodes.Reads as load-nodes-reads
 
 load-nodes-requires : tie.Need-load-nodes-requires
 load-nodes-requires c κs = search needs

@@ -1,8 +1,8 @@
 use mathlib.Core.Path.{ap, _∙_}
 use Rattle.tables.specs.Outcome.{seen}
-use Rattle.tables.specs.Load.{loadOutcome}
+use Rattle.loader.specs.Load.{loadOutcome}
 use Rattle.tables.specs.declared.rows.Instruction.{Instruction}
-use Rattle.tables.proofs.Loaded.{loaded-row, chosen}
+use Rattle.loader.proofs.Loaded.{loaded-row, chosen}
 use Rattle.console.specs.Resolve.{resolveTables}
 use Rattle.console.proofs.Facts.{call-ranges}
 use Rattle.extern_call.specs.Rows.{resolveCall}
@@ -12,7 +12,7 @@ use Rattle.console.proofs.resolve.resolve.Tie as tie
 use Rattle.console.proofs.resolve.resolve.Reads as reads
 use Rattle.console.proofs.resolve.resolve.Lts as lts
 use Rattle.extern_call.proofs.rows.resolve_call.Reads as resolve-call-reads
-use Rattle.tables.proofs.load.load_row.Reads as load-row-reads
+use Rattle.loader.proofs.load.load_row.Reads as load-row-reads
 use Rattle.tables.proofs.rows.instruction_at.Reads as instruction-at-reads
 
 load-row-requires : tie.Need-load-row-requires

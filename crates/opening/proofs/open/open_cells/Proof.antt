@@ -1,7 +1,7 @@
 use mathlib.Core.Path.{sym, _∙_}
 use Rattle.tables.specs.Outcome.{seen}
-use Rattle.tables.specs.Load.{loadOutcome}
-use Rattle.tables.proofs.Loaded.{loaded}
+use Rattle.loader.specs.Load.{loadOutcome}
+use Rattle.loader.proofs.Loaded.{loaded}
 use Rattle.type_check.proofs.CheckLaws.{loaded-frames}
 use Rattle.opening.specs.Open.{callLook, callsLook, programLook, openCells}
 use Rattle.opening.proofs.OpenLaws.{loaded-calls}

@@ -1,7 +1,7 @@
 use Prim.Native.Nat.{_-_}
 use mathlib.Core.Path.{_≡_, refl, sym, ap, _∙_}
 use Rattle.tables.specs.Outcome.{seen}
-use Rattle.tables.specs.Load.{loadOutcome}
+use Rattle.loader.specs.Load.{loadOutcome}
 use Rattle.tables.specs.Rows.{instructionRows}
 use Rattle.tables.proofs.FirstLaws.{first-all, first-hit, first-miss, first-end}
 use Rattle.opening.specs.Open.{callTables, isRefused, callsFrom, callsLook}

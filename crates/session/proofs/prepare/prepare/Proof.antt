@@ -1,7 +1,7 @@
 use mathlib.Core.Path.{sym, _∙_}
 use borrow.Author.Tests.{not-true, not-false}
 use Rattle.tables.specs.Outcome.{_>>=_, _>>_, need, seen}
-use Rattle.tables.specs.Load.{loadOutcome}
+use Rattle.loader.specs.Load.{loadOutcome}
 use Rattle.tables.specs.Cells.{cellsOutcome}
 use Rattle.tables.proofs.CellsLaws.{cells-given}
 use Rattle.session.specs.Prepare.{preparedOf}

@@ -1,0 +1,2 @@
+-- What the crates above cite of accepted tables.
+pub mod Loaded

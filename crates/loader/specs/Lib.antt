@@ -1,0 +1,5 @@
+-- Refusals 1 (Shape), 2 (Allowed, Instruction) and 3, and their order (Load).
+pub mod Shape
+pub mod Allowed
+pub mod Instruction
+pub mod Load

@@ -1,0 +1,132 @@
+// Refusal 2, of every table but the instructions: the words that each row allows.
+ghost use mathlib.Core.Path.{_≡_};
+ghost use Rattle.loader.specs.Allowed.{regionAllowed, externAllowed, parameterAllowed, nodeAllowed, argumentAllowed, regionsAllowed, externsAllowed, parametersAllowed, nodesAllowed, argumentsAllowed};
+use tables::rows::ARGUMENT_WIDTH;
+use tables::rows::Argument;
+use tables::rows::EXTERN_WIDTH;
+use tables::rows::Extern;
+use tables::rows::NODE_WIDTH;
+use tables::rows::Node;
+use tables::rows::PARAMETER_WIDTH;
+use tables::rows::Parameter;
+use tables::rows::REGION_WIDTH;
+use tables::rows::Region;
+
+fn region_allowed(x: Region) -> bool
+    ensures { λ r. ⌜ r ≡ regionAllowed x ⌝ }
+{
+    x.kind <= 3
+}
+
+// `parameters` is the number of parameter rows.
+fn extern_allowed(x: Extern, parameters: usize) -> bool
+    ensures { λ r. ⌜ r ≡ externAllowed parameters x ⌝ }
+{
+    (x.return_kind <= 4)
+        & tables::tree::range_inside(x.first_parameter, x.parameter_count, parameters)
+}
+
+fn parameter_allowed(x: Parameter) -> bool
+    ensures { λ r. ⌜ r ≡ parameterAllowed x ⌝ }
+{
+    (x.mutable <= 1) & ((x.shape <= 2) & ((x.kind <= 3) & ((x.shape == 1) | (x.length == 0))))
+}
+
+fn node_allowed(x: Node) -> bool
+    ensures { λ r. ⌜ r ≡ nodeAllowed x ⌝ }
+{
+    let tag = x.tag;
+    let unused = (x.first == 0) & (x.second == 0);
+    match tag {
+        0 => true,
+        1 => unused,
+        2 => unused,
+        3 => true,
+        4 => unused,
+        5 => unused,
+        6 => x.second == 0,
+        _ => false,
+    }
+}
+
+fn argument_allowed(x: Argument) -> bool
+    ensures { λ r. ⌜ r ≡ argumentAllowed x ⌝ }
+{
+    let form = x.form;
+    match form {
+        0 => x.second == 0,
+        1 => true,
+        2 => true,
+        _ => false,
+    }
+}
+
+pub fn regions_allowed(regions: &[u64]) -> bool
+    ensures { λ r. ⌜ r ≡ regionsAllowed (now (regions .entry)) ⌝ }
+{
+    let rows = regions.len() / REGION_WIDTH;
+    let mut i = 0;
+    while i < rows {
+        if !region_allowed(tables::rows::region_at(regions, i)) {
+            return false;
+        }
+        i += 1;
+    }
+    true
+}
+
+pub fn externs_allowed(externs: &[u64], parameters: usize) -> bool
+    ensures { λ r. ⌜ r ≡ externsAllowed parameters (now (externs .entry)) ⌝ }
+{
+    let rows = externs.len() / EXTERN_WIDTH;
+    let mut i = 0;
+    while i < rows {
+        if !extern_allowed(tables::rows::extern_at(externs, i), parameters) {
+            return false;
+        }
+        i += 1;
+    }
+    true
+}
+
+pub fn parameters_allowed(parameters: &[u64]) -> bool
+    ensures { λ r. ⌜ r ≡ parametersAllowed (now (parameters .entry)) ⌝ }
+{
+    let rows = parameters.len() / PARAMETER_WIDTH;
+    let mut i = 0;
+    while i < rows {
+        if !parameter_allowed(tables::rows::parameter_at(parameters, i)) {
+            return false;
+        }
+        i += 1;
+    }
+    true
+}
+
+pub fn nodes_allowed(nodes: &[u64]) -> bool
+    ensures { λ r. ⌜ r ≡ nodesAllowed (now (nodes .entry)) ⌝ }
+{
+    let rows = nodes.len() / NODE_WIDTH;
+    let mut i = 0;
+    while i < rows {
+        if !node_allowed(tables::rows::node_at(nodes, i)) {
+            return false;
+        }
+        i += 1;
+    }
+    true
+}
+
+pub fn arguments_allowed(arguments: &[u64]) -> bool
+    ensures { λ r. ⌜ r ≡ argumentsAllowed (now (arguments .entry)) ⌝ }
+{
+    let rows = arguments.len() / ARGUMENT_WIDTH;
+    let mut i = 0;
+    while i < rows {
+        if !argument_allowed(tables::rows::argument_at(arguments, i)) {
+            return false;
+        }
+        i += 1;
+    }
+    true
+}

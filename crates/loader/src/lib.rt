@@ -1,0 +1,5 @@
+// The loader's looks at the tables: refusals 1, 2 and 3.
+pub mod allowed;
+pub mod instruction;
+pub mod load;
+pub mod shape;

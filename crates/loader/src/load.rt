@@ -1,0 +1,140 @@
+// Refusals 1, 2 and 3 over all tables, in that order.
+ghost use mathlib.Core.Path.{_≡_};
+ghost use Prim.Native.Nat.{_≤_};
+ghost use Rattle.tables.specs.Rows.{nodeRows};
+ghost use Rattle.tables.specs.Tables.{tablesOf};
+ghost use Rattle.loader.specs.Load.{loadOutcome, allowedTables, distinctNames, chosenRow, loadOf, loadRowOf, loadNodesOf};
+use crate::allowed::arguments_allowed;
+use crate::allowed::externs_allowed;
+use crate::allowed::nodes_allowed;
+use crate::allowed::parameters_allowed;
+use crate::allowed::regions_allowed;
+use crate::instruction::instructions_allowed;
+use crate::shape::whole_rows;
+use crate::shape::whole_tables;
+use tables::lookup::distinct_names;
+use tables::refusal::NAME_TWICE;
+use tables::refusal::TABLE_SHAPE;
+use tables::refusal::WORD_NOT_ALLOWED;
+use tables::rows::ARGUMENT_WIDTH;
+use tables::rows::EXTERN_WIDTH;
+use tables::rows::INSTRUCTION_WIDTH;
+use tables::rows::NODE_LIMIT;
+use tables::rows::NODE_WIDTH;
+use tables::rows::PARAMETER_WIDTH;
+use tables::rows::REGION_WIDTH;
+use tables::tree::one_tree;
+
+// What the tables' tests answer.
+pub enum Load {
+    Accepted,
+    Refused(u64),
+}
+
+// Every word rule of every table, of tables within their limits.
+pub fn allowed_tables(
+    regions: &[u64],
+    externs: &[u64],
+    parameters: &[u64],
+    nodes: &[u64],
+    arguments: &[u64],
+    instructions: &[u64],
+) -> bool
+    requires { ⌜ nodeRows (now nodes) ≤ 2048 ⌝ }
+    ensures { λ r. ⌜ r ≡ allowedTables (tablesOf (now (regions .entry)) (now (externs .entry)) (now (parameters .entry)) (now (nodes .entry)) (now (arguments .entry)) (now (instructions .entry))) ⌝ }
+{
+    regions_allowed(regions)
+        & (externs_allowed(externs, parameters.len() / PARAMETER_WIDTH)
+            & (parameters_allowed(parameters)
+                & (nodes_allowed(nodes)
+                    & (arguments_allowed(arguments)
+                        & instructions_allowed(
+                            instructions,
+                            nodes,
+                            arguments.len() / ARGUMENT_WIDTH,
+                        )))))
+}
+
+// No two regions and no two externs of one name.
+pub fn distinct_tables(regions: &[u64], externs: &[u64]) -> bool
+    ensures { λ r. ⌜ r ≡ distinctNames (now (regions .entry)) (now (externs .entry)) ⌝ }
+{
+    distinct_names(regions, REGION_WIDTH) & distinct_names(externs, EXTERN_WIDTH)
+}
+
+// Whether the chosen row is there and of the family.
+pub fn chosen_row(instructions: &[u64], row: usize, family: u64) -> bool
+    ensures { λ r. ⌜ r ≡ chosenRow (now (instructions .entry)) row family ⌝ }
+{
+    if instructions.len() / INSTRUCTION_WIDTH <= row {
+        return false;
+    }
+    let x = tables::rows::instruction_at(instructions, row);
+    x.family == family
+}
+
+pub fn load_tables(
+    regions: &[u64],
+    externs: &[u64],
+    parameters: &[u64],
+    nodes: &[u64],
+    arguments: &[u64],
+    instructions: &[u64],
+) -> Load
+    ensures { λ r. ⌜ loadOutcome r ≡ loadOf (tablesOf (now (regions .entry)) (now (externs .entry)) (now (parameters .entry)) (now (nodes .entry)) (now (arguments .entry)) (now (instructions .entry))) ⌝ }
+{
+    if !whole_tables(regions, externs, parameters, nodes, arguments, instructions) {
+        return Load::Refused(TABLE_SHAPE);
+    }
+    if !allowed_tables(regions, externs, parameters, nodes, arguments, instructions) {
+        return Load::Refused(WORD_NOT_ALLOWED);
+    }
+    if !distinct_tables(regions, externs) {
+        return Load::Refused(NAME_TWICE);
+    }
+    Load::Accepted
+}
+
+// For the calls that take a row: it must be there, of the family.
+pub fn load_row(
+    regions: &[u64],
+    externs: &[u64],
+    parameters: &[u64],
+    nodes: &[u64],
+    arguments: &[u64],
+    instructions: &[u64],
+    row: usize,
+    family: u64,
+) -> Load
+    ensures { λ r. ⌜ loadOutcome r ≡ loadRowOf (tablesOf (now (regions .entry)) (now (externs .entry)) (now (parameters .entry)) (now (nodes .entry)) (now (arguments .entry)) (now (instructions .entry))) row family ⌝ }
+{
+    if !whole_tables(regions, externs, parameters, nodes, arguments, instructions) {
+        return Load::Refused(TABLE_SHAPE);
+    }
+    if !allowed_tables(regions, externs, parameters, nodes, arguments, instructions) {
+        return Load::Refused(WORD_NOT_ALLOWED);
+    }
+    if !chosen_row(instructions, row, family) {
+        return Load::Refused(WORD_NOT_ALLOWED);
+    }
+    if !distinct_tables(regions, externs) {
+        return Load::Refused(NAME_TWICE);
+    }
+    Load::Accepted
+}
+
+// The nodes alone, with a chosen range that must be one tree.
+pub fn load_nodes(nodes: &[u64], first: u64, count: u64) -> Load
+    ensures { λ r. ⌜ loadOutcome r ≡ loadNodesOf (now (nodes .entry)) first count ⌝ }
+{
+    if !whole_rows(nodes, NODE_WIDTH, NODE_LIMIT) {
+        return Load::Refused(TABLE_SHAPE);
+    }
+    if !nodes_allowed(nodes) {
+        return Load::Refused(WORD_NOT_ALLOWED);
+    }
+    if !one_tree(nodes, first, count) {
+        return Load::Refused(WORD_NOT_ALLOWED);
+    }
+    Load::Accepted
+}
