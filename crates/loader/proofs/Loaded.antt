@@ -16,11 +16,8 @@ use Rattle.loader.specs.Allowed as A
 use Rattle.loader.specs.Instruction as I
 use Rattle.loader.specs.Load.{allowedTables, chosenRow, distinctNames, loadOf, loadRowOf, loadNodesOf}
 use Rattle.tables.specs.declared.rows.Instruction.{Instruction}
-use Rattle.tables.proofs.FirstLaws.{every-row}
+use Rattle.tables.proofs.FirstLaws.{never, every-row}
 use Rattle.tables.proofs.TreeLaws.{inside-le}
-
-never : {A : Type 0} → false ≡ true → A
-never e = let z : _≡_ {A = ℕ} 0 1 = cc in absurd (omega arith)
 
 pub both : (a b : Bool) → a && b ≡ true → (a ≡ true) × (b ≡ true)
 both true true e = (refl, refl)

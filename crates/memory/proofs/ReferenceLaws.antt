@@ -7,14 +7,12 @@ use native.Mathlib.Numerals.{add-one}
 use native.Mathlib.Omega.{arith}
 use borrow.Author.Tests.{ne-eqb}
 use lib.Dec.{eqb}
+use Rattle.tables.proofs.FirstLaws.{never}
 use Rattle.tables.specs.Rows.{nodeRows, nodeTag}
 use Rattle.tables.specs.Tree.{arityOf, treesFrom, inside, oneTree}
 use Rattle.tables.proofs.TreeLaws.{arity-le, inside-le}
 use Rattle.memory.specs.References.{isAddress, referenceAt, Walked, treeAt, references, addresses}
 use Rattle.memory.specs.declared.MemoryReference.{MemoryReference}
-
-never : {A : Type 0} → false ≡ true → A
-never e = let z : _≡_ {A = ℕ} 0 1 = ap (λ b. cond b 1 0) e in absurd (omega arith)
 
 both : (a b : Bool) → (a && b) ≡ true → (a ≡ true) × (b ≡ true)
 both true b e = (refl, e)

@@ -2,7 +2,7 @@
 use Prim.Native.Nat.{ℕ, zero, suc, _+_, _-_, _<_, _≤_}
 use mathlib.Core.Bool.{Bool, true, false, _||_}
 use mathlib.Core.List.{List}
-use mathlib.Core.Path.{_≡_, refl, sym, ap, subst, _∙_}
+use mathlib.Core.Path.{_≡_, refl, sym, ap, _∙_}
 use native.Mathlib.Omega.{arith}
 use native.Mathlib.Decide.{ℕ-discrete}
 use borrow.Author.Tests.{eq-eqb, ne-eqb, eqb-true, eqb-false, leb-true, leb-false}
@@ -12,11 +12,8 @@ use lib.Seq.{getD-set-same, getD-set-other}
 use Rattle.tables.specs.Rows.{nodeRows, nodeTag}
 use Rattle.tables.specs.Tree.{arityOf, treesFrom}
 use Rattle.tables.specs.Ends.{TreeEnd, EndsFrom}
-use Rattle.tables.proofs.FirstLaws.{neither}
+use Rattle.tables.proofs.FirstLaws.{never, neither}
 use Rattle.tables.proofs.TreeLaws.{arity-le}
-
-never : {A : Type 0} → true ≡ false → A
-never e = let z : _≡_ {A = ℕ} 0 1 = cc in absurd (omega arith)
 
 one-not-none : _≡_ {A = ℕ} 1 0 → ⊥
 one-not-none z = omega (arith, z)
@@ -29,7 +26,7 @@ module _ (nodes : List ℕ) where
 
   some-tree : (trees i n : ℕ) → treesFrom nodes trees i (suc n) ≡ true → trees ≡ 0 → ⊥
   unfolding treesFrom
-  some-tree trees i n e z = never (sym e ∙ rw (eq-eqb trees 0 z))
+  some-tree trees i n e z = never (sym (sym e ∙ rw (eq-eqb trees 0 z)))
 
   no-rows : (trees i : ℕ) → treesFrom nodes trees i 0 ≡ eqb trees 0
   unfolding treesFrom
@@ -179,7 +176,7 @@ module _ (nodes : List ℕ) where
           at : Dec (r ≡ 1) → Dec (f ≡ 0) → TreeEnd nodes i f
           at (yes z) d = end-one f (sym q ∙ z) t
           at (no ne) (yes z) = rw z (end-two-none (two ne) (rw z at t))
-          at (no ne) (no nz) = never (sym b ∙ rw (ne-eqb r 1 ne, ne-eqb f 0 nz))
+          at (no ne) (no nz) = never (sym (sym b ∙ rw (ne-eqb r 1 ne, ne-eqb f 0 nz)))
 
       pub end-second : (e : ℕ) → (eqb r 1 || eqb f 0) ≡ false → TreeEnd nodes f e → TreeEnd nodes i e
       end-second e b u = let (a, z) = neither (eqb r 1) (eqb f 0) b in end-two f e (eqb-false f 0 z) (two (eqb-false r 1 a)) t u

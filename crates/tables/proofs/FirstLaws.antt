@@ -8,6 +8,10 @@ use native.Mathlib.Decide.{ℕ-discrete}
 use borrow.Author.Tests.{eq-eqb, ne-eqb, lt-ltb, le-ltb, le-leb, lt-leb}
 use Rattle.tables.specs.First.{first, everyFrom, every}
 
+-- a test does not both hold and fail
+pub never : {A : Type 0} → false ≡ true → A
+never e = let z : _≡_ {A = ℕ} 0 1 = cc in absurd (omega arith)
+
 pub left-suc : (n i : ℕ) → i < n → n - i ≡ suc (n - (i + 1))
 left-suc n i h = (let e : n - i ≡ (n - (i + 1)) + 1 = omega arith in e) ∙ add-one _
 

@@ -11,10 +11,8 @@ use lib.Seq.{getD-set-same, getD-set-other}
 use Rattle.tables.specs.Lookup.{nameAt, lookupAmong}
 use Rattle.tables.specs.Marks.{markOf, Marked}
 use Rattle.tables.specs.declared.lookup.Found.the-variants.{Nothing}
+use Rattle.tables.proofs.FirstLaws.{never}
 use Rattle.tables.proofs.LookupLaws.{among-miss}
-
-never : {A : Type 0} → true ≡ false → A
-never e = let z : _≡_ {A = ℕ} 0 1 = cc in absurd (omega arith)
 
 pub mark-below : (name : ℕ) → markOf name < 251
 unfolding markOf
@@ -27,7 +25,7 @@ mark-within name e f = omega (arith, mark-below name, e, f)
 module _ (width : ℕ) (xs : List ℕ) (marks : List Bool) (n : ℕ) (m : Marked width xs marks n) where
   -- row n's name, whose mark r is not set, is no earlier row's
   pub unmarked : {r : ℕ} → r ≡ markOf (nameAt width xs n) → not (getD marks r false) ≡ true → lookupAmong width xs (nameAt width xs n) n ≡ Nothing
-  unmarked e t = among-miss width xs _ n (λ k h q. never (sym (m .set k h) ∙ (ap (λ name. getD marks (markOf name) false) q ∙ (ap (λ r. getD marks r false) (sym e) ∙ not-true _ t))))
+  unmarked e t = among-miss width xs _ n (λ k h q. never (sym (sym (m .set k h) ∙ (ap (λ name. getD marks (markOf name) false) q ∙ (ap (λ r. getD marks r false) (sym e) ∙ not-true _ t)))))
 
   pub marked-row : Marked width xs (set marks (markOf (nameAt width xs n)) true) (n + 1)
   marked-row = record { count = length-set marks _ true ∙ m .count; set = λ k h. at k h (ℕ-discrete (markOf (nameAt width xs k)) (markOf (nameAt width xs n))) (ℕ-discrete k n) }
