@@ -1,4 +1,4 @@
-//! The fixed list of quil-rs's answers that crates/vectors replays: a sample of every set, a question a line.
+//! The fixed list of quil-rs's answers that crates/cases_vectors replays: a sample of every set, a question a line.
 //!
 //! A line is words in hexadecimal. A list is its length, then its words.
 //!   call (1 check, 2 resolve, 3 access, 4 memory_references), the six tables as lists, then
@@ -38,7 +38,7 @@ pub fn write() -> bool {
 
 fn header() -> String {
     "# quil-rs's answers at 5a4668c218, as compare/compare/src/vectors.rs lays them out.\n\
-     # Made by: compare/run --vectors > crates/vectors/data/answers\n"
+     # Made by: compare/run --vectors > crates/cases_vectors/data/answers\n"
         .to_string()
 }
 

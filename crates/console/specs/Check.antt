@@ -2,7 +2,7 @@
 use Prim.Native.Nat.{ℕ}
 use Rattle.tables.specs.Refusal.{typeError}
 use Rattle.tables.specs.Tables.{Tables}
-use Rattle.loader.specs.Load.{loadOf}
+use Rattle.loader.specs.Load.{loadLook}
 use Rattle.type_check.specs.Check.{checkOf}
 use Rattle.type_check.specs.declared.error.Verdict.{Verdict}
 use Rattle.type_check.specs.declared.error.Verdict.the-variants as T
@@ -15,7 +15,7 @@ verdictAnswer T.Accepted = Accepted
 verdictAnswer (T.Error e) = Error e
 
 unfoldable pub checkTables : Tables → CheckAnswer
-checkTables t = after (loadOf t) Refused (verdictAnswer (checkOf (t .regions) (t .nodes) (t .instructions)))
+checkTables t = after (loadLook t) Refused (verdictAnswer (checkOf (t .regions) (t .nodes) (t .instructions)))
 
 -- the answer's cases: 0, the refusal's number, or "with 5 the type error" (its words are type_check's `errorWords`)
 abbrev pub checkNumber : CheckAnswer → ℕ

@@ -1,7 +1,7 @@
 -- 01, Order: "Walk (nodes alone; the rest take every table): 1, 2."
 use Prim.Native.Nat.{ℕ}
 use mathlib.Core.List.{List, [], _∷_}
-use Rattle.loader.specs.Load.{loadNodesOf}
+use Rattle.loader.specs.Load.{loadNodesLook}
 use Rattle.memory.specs.References.{nextIn}
 use Rattle.memory.specs.declared.Next.{Next}
 use Rattle.memory.specs.declared.Next.the-variants.{Reference, End}
@@ -10,7 +10,7 @@ use Rattle.console.specs.declared.references.WalkAnswer.{WalkAnswer}
 use Rattle.console.specs.declared.references.WalkAnswer.the-variants.{Refused, Went}
 
 unfoldable pub referencesTable : List ℕ → ℕ → ℕ → ℕ → WalkAnswer
-referencesTable nodes first count place = after (loadNodesOf nodes first count) Refused (Went (nextIn nodes first count place))
+referencesTable nodes first count place = after (loadNodesLook nodes first count) Refused (Went (nextIn nodes first count place))
 
 -- the answer's cases: 0 or the refusal's number
 abbrev pub walkNumber : WalkAnswer → ℕ

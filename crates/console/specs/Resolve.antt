@@ -3,12 +3,12 @@ use Prim.Native.Nat.{ℕ}
 use mathlib.Core.List.{List}
 use Rattle.tables.specs.Tables.{Tables}
 use Rattle.tables.specs.Rows.{instructionAt}
-use Rattle.loader.specs.Load.{loadRowOf}
+use Rattle.loader.specs.Load.{loadRowLook}
 use Rattle.extern_call.specs.Rows.{Resolve, resolve, resolveCall}
 use Rattle.console.specs.Answer.{after}
 
 -- the chosen row is of family 9, a CALL
 unfoldable pub resolveTables : Tables → ℕ → List ℕ → Resolve
 resolveTables t row rows =
-    after (loadRowOf t row 9) (λ number. resolve number 0 rows)
+    after (loadRowLook t row 9) (λ number. resolve number 0 rows)
     (resolveCall (t .regions) (t .externs) (t .parameters) (t .arguments) (instructionAt (t .instructions) row) rows)

@@ -5,9 +5,9 @@ ghost use Rattle.extern_call.specs.Access.{accessAnswer};
 ghost use Rattle.console.specs.Access.{accessTables};
 use extern_call::access::AccessAnswer;
 use extern_call::access::access_call;
-use loader::load::Load;
 use loader::load::load_row;
-use tables::instruction::CALL;
+use tables::family::CALL;
+use tables::look::Look;
 use tables::rows::instruction_at;
 
 pub fn access(
@@ -33,7 +33,7 @@ pub fn access(
         row,
         CALL,
     );
-    if let Load::Refused(number) = loaded {
+    if let Look::Refused(number) = loaded {
         return AccessAnswer::Refused(number);
     }
     let x = instruction_at(instructions, row);

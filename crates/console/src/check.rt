@@ -2,8 +2,8 @@
 ghost use mathlib.Core.Path.{_≡_};
 ghost use Rattle.tables.specs.Tables.{tablesOf};
 ghost use Rattle.console.specs.Check.{verdictAnswer, checkTables};
-use loader::load::Load;
 use loader::load::load_tables;
+use tables::look::Look;
 use type_check::error::TypeError;
 use type_check::error::Verdict;
 use type_check::program::check_program;
@@ -35,7 +35,7 @@ pub fn check(
     ensures { λ r. ⌜ r ≡ checkTables (tablesOf (now (regions .entry)) (now (externs .entry)) (now (parameters .entry)) (now (nodes .entry)) (now (arguments .entry)) (now (instructions .entry))) ⌝ }
 {
     let loaded = load_tables(regions, externs, parameters, nodes, arguments, instructions);
-    if let Load::Refused(number) = loaded {
+    if let Look::Refused(number) = loaded {
         return CheckAnswer::Refused(number);
     }
     verdict_answer(check_program(regions, nodes, instructions))

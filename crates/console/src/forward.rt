@@ -7,7 +7,7 @@ use journal::position::Position;
 use session::answer::StepAnswer;
 use session::prepare::Prepared;
 use session::prepare::prepare;
-use stepping::step::step_row;
+use session_forward::step::step_row;
 
 pub fn forward(
     regions: &[u64],

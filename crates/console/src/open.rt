@@ -2,12 +2,12 @@
 ghost use mathlib.Core.Path.{_≡_};
 ghost use lib.ListN.{length};
 ghost use Rattle.tables.specs.Tables.{tablesOf};
-ghost use Rattle.opening.specs.Open.{opening, openTables};
+ghost use Rattle.session_open.specs.Open.{opening, openTables};
 use journal::cells::CELL_WIDTH;
-use opening::open::open_cells;
 use session::answer::OpenAnswer;
 use session::prepare::Prepared;
 use session::prepare::prepare;
+use session_open::open::open_cells;
 
 // Of the journal only its length is looked at.
 pub fn open(

@@ -1,10 +1,10 @@
 // The references of one expression, one call at a time.
 ghost use mathlib.Core.Path.{_≡_};
 ghost use Rattle.console.specs.References.{referencesTable};
-use loader::load::Load;
 use loader::load::load_nodes;
 use memory::Stepped;
 use memory::next_in;
+use tables::look::Look;
 
 // A refusal by its number, or what the walk hands out with the place to go on from.
 pub enum WalkAnswer {
@@ -17,7 +17,7 @@ pub fn memory_references(nodes: &[u64], first: u64, count: u64, place: usize) ->
     ensures { λ r. ⌜ r ≡ referencesTable (now (nodes .entry)) first count place ⌝ }
 {
     let loaded = load_nodes(nodes, first, count);
-    if let Load::Refused(number) = loaded {
+    if let Look::Refused(number) = loaded {
         return WalkAnswer::Refused(number);
     }
     WalkAnswer::Went(next_in(nodes, first, count, place))

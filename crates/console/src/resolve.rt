@@ -5,9 +5,9 @@ ghost use Rattle.extern_call.specs.Rows.{resolveAnswer};
 ghost use Rattle.console.specs.Resolve.{resolveTables};
 use extern_call::rows::ResolveAnswer;
 use extern_call::rows::resolve_call;
-use loader::load::Load;
 use loader::load::load_row;
-use tables::instruction::CALL;
+use tables::family::CALL;
+use tables::look::Look;
 use tables::rows::instruction_at;
 
 pub fn resolve(
@@ -32,7 +32,7 @@ pub fn resolve(
         row,
         CALL,
     );
-    if let Load::Refused(number) = loaded {
+    if let Look::Refused(number) = loaded {
         return ResolveAnswer::Refused(number);
     }
     let x = instruction_at(instructions, row);

@@ -5,7 +5,7 @@ use lib.Seq.{sets}
 use Rattle.tables.specs.Tables.{Tables}
 use Rattle.type_check.specs.Check.{errorWords}
 use Rattle.session.specs.Answer.{openNumber}
-use Rattle.opening.specs.Open.{Opening, openTables}
+use Rattle.session_open.specs.Open.{Opening, openTables}
 use Rattle.session.specs.declared.answer.OpenAnswer.{OpenAnswer}
 use Rattle.session.specs.declared.answer.OpenAnswer.the-variants.{Opened, Refused, Error}
 use Rattle.console_c.specs.Position.{positionWords}

@@ -14,7 +14,7 @@ use Rattle.tables.specs.Tree.{inside, oneTree}
 use Rattle.loader.specs.Shape.{wholeRows, wholeTables}
 use Rattle.loader.specs.Allowed as A
 use Rattle.loader.specs.Instruction as I
-use Rattle.loader.specs.Load.{allowedTables, chosenRow, distinctNames, loadOf, loadRowOf, loadNodesOf}
+use Rattle.loader.specs.Load.{allowedTables, chosenRow, distinctNames, loadLook, loadRowLook, loadNodesLook}
 use Rattle.tables.specs.declared.rows.Instruction.{Instruction}
 use Rattle.tables.proofs.FirstLaws.{never, every-row}
 use Rattle.tables.proofs.TreeLaws.{inside-le}
@@ -40,23 +40,23 @@ pub record Loaded (t : Tables) : Type 0 where
   pub allowed : allowedTables t ≡ true
   pub distinct : distinctNames (t .regions) (t .externs) ≡ true
 
-pub loaded : (t : Tables) → loadOf t ≡ ok tt → Loaded t
-unfolding loadOf
+pub loaded : (t : Tables) → loadLook t ≡ ok tt → Loaded t
+unfolding loadLook
 loaded t e =
     let (w, e₁) = passed (wholeTables t) _ _ _ e in
     let (a, e₂) = passed (allowedTables t) _ _ _ e₁ in
     record { whole = w; allowed = a; distinct = needed (distinctNames (t .regions) (t .externs)) _ e₂ }
 
-pub loaded-row : (t : Tables) (row family : ℕ) → loadRowOf t row family ≡ ok tt → Loaded t × (chosenRow (t .instructions) row family ≡ true)
-unfolding loadRowOf
+pub loaded-row : (t : Tables) (row family : ℕ) → loadRowLook t row family ≡ ok tt → Loaded t × (chosenRow (t .instructions) row family ≡ true)
+unfolding loadRowLook
 loaded-row t row family e =
     let (w, e₁) = passed (wholeTables t) _ _ _ e in
     let (a, e₂) = passed (allowedTables t) _ _ _ e₁ in
     let (c, e₃) = passed (chosenRow (t .instructions) row family) _ _ _ e₂ in
     (record { whole = w; allowed = a; distinct = needed (distinctNames (t .regions) (t .externs)) _ e₃ }, c)
 
-pub loaded-nodes : (nodes : List ℕ) (first count : ℕ) → loadNodesOf nodes first count ≡ ok tt → oneTree nodes first count ≡ true
-unfolding loadNodesOf
+pub loaded-nodes : (nodes : List ℕ) (first count : ℕ) → loadNodesLook nodes first count ≡ ok tt → oneTree nodes first count ≡ true
+unfolding loadNodesLook
 loaded-nodes nodes first count e =
     let (w, e₁) = passed (wholeRows R.nodeWidth 2048 nodes) _ _ _ e in
     let (a, e₂) = passed (A.nodesAllowed nodes) _ _ _ e₁ in

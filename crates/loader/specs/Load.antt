@@ -4,7 +4,7 @@ use mathlib.Core.Bool.{Bool, _&&_}
 use mathlib.Core.List.{List}
 use lib.Dec.{eqb, ltb}
 use Rattle.tables.specs.Refusal.{tableShape, wordNotAllowed, nameTwice}
-use Rattle.tables.specs.Outcome.{Outcome, ok, refuse, _>>=_, _>>_, need}
+use Rattle.tables.specs.Outcome.{Outcome, _>>_, need}
 use Rattle.tables.specs.Tables.{Tables}
 use Rattle.tables.specs.Rows.{regionWidth, externWidth, nodeWidth, parameterRows, argumentRows, instructionRows, instructionAt}
 use Rattle.tables.specs.Lookup.{distinct}
@@ -12,8 +12,6 @@ use Rattle.tables.specs.Tree.{oneTree}
 use Rattle.loader.specs.Shape.{wholeRows, wholeTables}
 use Rattle.loader.specs.Allowed.{regionsAllowed, externsAllowed, parametersAllowed, nodesAllowed, argumentsAllowed}
 use Rattle.loader.specs.Instruction.{instructionsAllowed}
-use Rattle.loader.specs.declared.load.Load.{Load}
-use Rattle.loader.specs.declared.load.Load.the-variants.{Accepted, Refused}
 
 -- 2: "word not allowed, range outside its table"
 unfoldable pub allowedTables : Tables → Bool
@@ -34,28 +32,23 @@ unfoldable pub distinctNames : List ℕ → List ℕ → Bool
 distinctNames regions externs = distinct regionWidth regions && distinct externWidth externs
 
 -- every call that takes all tables
-unfoldable pub loadOf : Tables → Outcome (Unit {0})
-loadOf t = do
+unfoldable pub loadLook : Tables → Outcome (Unit {0})
+loadLook t = do
   need (wholeTables t) tableShape
   need (allowedTables t) wordNotAllowed
   need (distinctNames (t .regions) (t .externs)) nameTwice
 
 -- a call that takes a row of a family besides
-unfoldable pub loadRowOf : Tables → ℕ → ℕ → Outcome (Unit {0})
-loadRowOf t row family = do
+unfoldable pub loadRowLook : Tables → ℕ → ℕ → Outcome (Unit {0})
+loadRowLook t row family = do
   need (wholeTables t) tableShape
   need (allowedTables t) wordNotAllowed
   need (chosenRow (t .instructions) row family) wordNotAllowed
   need (distinctNames (t .regions) (t .externs)) nameTwice
 
 -- the walk, which takes the nodes alone and a range
-unfoldable pub loadNodesOf : List ℕ → ℕ → ℕ → Outcome (Unit {0})
-loadNodesOf nodes first count = do
+unfoldable pub loadNodesLook : List ℕ → ℕ → ℕ → Outcome (Unit {0})
+loadNodesLook nodes first count = do
   need (wholeRows nodeWidth 2048 nodes) tableShape
   need (nodesAllowed nodes) wordNotAllowed
   need (oneTree nodes first count) wordNotAllowed
-
--- the answer `Load` of the code
-abbrev pub loadOutcome : Load → Outcome (Unit {0})
-loadOutcome Accepted = ok tt
-loadOutcome (Refused n) = refuse n

@@ -3,7 +3,8 @@ ghost use mathlib.Core.Path.{_≡_};
 ghost use Prim.Native.Nat.{_≤_};
 ghost use Rattle.tables.specs.Rows.{nodeRows};
 ghost use Rattle.tables.specs.Tables.{tablesOf};
-ghost use Rattle.loader.specs.Load.{loadOutcome, allowedTables, distinctNames, chosenRow, loadOf, loadRowOf, loadNodesOf};
+ghost use Rattle.tables.specs.Look.{lookOutcome};
+ghost use Rattle.loader.specs.Load.{allowedTables, distinctNames, chosenRow, loadLook, loadRowLook, loadNodesLook};
 use crate::allowed::arguments_allowed;
 use crate::allowed::externs_allowed;
 use crate::allowed::nodes_allowed;
@@ -12,6 +13,7 @@ use crate::allowed::regions_allowed;
 use crate::instruction::instructions_allowed;
 use crate::shape::whole_rows;
 use crate::shape::whole_tables;
+use tables::look::Look;
 use tables::lookup::distinct_names;
 use tables::refusal::NAME_TWICE;
 use tables::refusal::TABLE_SHAPE;
@@ -24,12 +26,6 @@ use tables::rows::NODE_WIDTH;
 use tables::rows::PARAMETER_WIDTH;
 use tables::rows::REGION_WIDTH;
 use tables::tree::one_tree;
-
-// What the tables' tests answer.
-pub enum Load {
-    Accepted,
-    Refused(u64),
-}
 
 // Every word rule of every table, of tables within their limits.
 pub fn allowed_tables(
@@ -80,19 +76,19 @@ pub fn load_tables(
     nodes: &[u64],
     arguments: &[u64],
     instructions: &[u64],
-) -> Load
-    ensures { λ r. ⌜ loadOutcome r ≡ loadOf (tablesOf (now (regions .entry)) (now (externs .entry)) (now (parameters .entry)) (now (nodes .entry)) (now (arguments .entry)) (now (instructions .entry))) ⌝ }
+) -> Look
+    ensures { λ r. ⌜ lookOutcome r ≡ loadLook (tablesOf (now (regions .entry)) (now (externs .entry)) (now (parameters .entry)) (now (nodes .entry)) (now (arguments .entry)) (now (instructions .entry))) ⌝ }
 {
     if !whole_tables(regions, externs, parameters, nodes, arguments, instructions) {
-        return Load::Refused(TABLE_SHAPE);
+        return Look::Refused(TABLE_SHAPE);
     }
     if !allowed_tables(regions, externs, parameters, nodes, arguments, instructions) {
-        return Load::Refused(WORD_NOT_ALLOWED);
+        return Look::Refused(WORD_NOT_ALLOWED);
     }
     if !distinct_tables(regions, externs) {
-        return Load::Refused(NAME_TWICE);
+        return Look::Refused(NAME_TWICE);
     }
-    Load::Accepted
+    Look::Accepted
 }
 
 // For the calls that take a row: it must be there, of the family.
@@ -105,36 +101,36 @@ pub fn load_row(
     instructions: &[u64],
     row: usize,
     family: u64,
-) -> Load
-    ensures { λ r. ⌜ loadOutcome r ≡ loadRowOf (tablesOf (now (regions .entry)) (now (externs .entry)) (now (parameters .entry)) (now (nodes .entry)) (now (arguments .entry)) (now (instructions .entry))) row family ⌝ }
+) -> Look
+    ensures { λ r. ⌜ lookOutcome r ≡ loadRowLook (tablesOf (now (regions .entry)) (now (externs .entry)) (now (parameters .entry)) (now (nodes .entry)) (now (arguments .entry)) (now (instructions .entry))) row family ⌝ }
 {
     if !whole_tables(regions, externs, parameters, nodes, arguments, instructions) {
-        return Load::Refused(TABLE_SHAPE);
+        return Look::Refused(TABLE_SHAPE);
     }
     if !allowed_tables(regions, externs, parameters, nodes, arguments, instructions) {
-        return Load::Refused(WORD_NOT_ALLOWED);
+        return Look::Refused(WORD_NOT_ALLOWED);
     }
     if !chosen_row(instructions, row, family) {
-        return Load::Refused(WORD_NOT_ALLOWED);
+        return Look::Refused(WORD_NOT_ALLOWED);
     }
     if !distinct_tables(regions, externs) {
-        return Load::Refused(NAME_TWICE);
+        return Look::Refused(NAME_TWICE);
     }
-    Load::Accepted
+    Look::Accepted
 }
 
 // The nodes alone, with a chosen range that must be one tree.
-pub fn load_nodes(nodes: &[u64], first: u64, count: u64) -> Load
-    ensures { λ r. ⌜ loadOutcome r ≡ loadNodesOf (now (nodes .entry)) first count ⌝ }
+pub fn load_nodes(nodes: &[u64], first: u64, count: u64) -> Look
+    ensures { λ r. ⌜ lookOutcome r ≡ loadNodesLook (now (nodes .entry)) first count ⌝ }
 {
     if !whole_rows(nodes, NODE_WIDTH, NODE_LIMIT) {
-        return Load::Refused(TABLE_SHAPE);
+        return Look::Refused(TABLE_SHAPE);
     }
     if !nodes_allowed(nodes) {
-        return Load::Refused(WORD_NOT_ALLOWED);
+        return Look::Refused(WORD_NOT_ALLOWED);
     }
     if !one_tree(nodes, first, count) {
-        return Load::Refused(WORD_NOT_ALLOWED);
+        return Look::Refused(WORD_NOT_ALLOWED);
     }
-    Load::Accepted
+    Look::Accepted
 }

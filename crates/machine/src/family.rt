@@ -18,7 +18,7 @@ use operands::cell::read_offset;
 use operands::cell::read_source;
 use operators::INTEGER_LITERAL;
 use operators::REAL_LITERAL;
-use tables::instruction;
+use tables::family;
 use tables::refusal::INDEX_PAST_LENGTH;
 use tables::refusal::NEGATIVE_SHIFT_COUNT;
 use tables::refusal::NO_RULE;
@@ -237,14 +237,14 @@ pub fn family_outcome(
 {
     let family = x.family;
     match family {
-        instruction::ARITHMETIC => arithmetic(cells, x, a),
-        instruction::COMPARISON => comparison(cells, x, a),
-        instruction::BINARY_LOGIC => logic(cells, x, a),
-        instruction::UNARY => unary(cells, x, a),
-        instruction::MOVE => move_source(cells, x, a),
-        instruction::EXCHANGE => exchange(cells, a),
-        instruction::LOAD => load(regions, cells, n, a),
-        instruction::STORE => store(regions, cells, x, n, a),
+        family::ARITHMETIC => arithmetic(cells, x, a),
+        family::COMPARISON => comparison(cells, x, a),
+        family::BINARY_LOGIC => logic(cells, x, a),
+        family::UNARY => unary(cells, x, a),
+        family::MOVE => move_source(cells, x, a),
+        family::EXCHANGE => exchange(cells, a),
+        family::LOAD => load(regions, cells, n, a),
+        family::STORE => store(regions, cells, x, n, a),
         _ => RowOutcome::NoWrites,
     }
 }

@@ -8,7 +8,7 @@ use operands::address::Indices;
 use operands::address::Names;
 use operands::address::named_regions;
 use operands::address::written_addresses;
-use tables::instruction;
+use tables::family;
 use tables::refusal::INDEX_PAST_LENGTH;
 use tables::refusal::NO_RULE;
 use tables::refusal::OTHER_INSTRUCTION;
@@ -27,7 +27,7 @@ pub fn plain_outcome(regions: &[u64], cells: &[u64], x: Instruction, reply: &[u6
     requires { ⌜ Opened (now regions) (now cells) x ⌝ }
     ensures { λ r. ⌜ rowOutcome r ≡ plainOutcome (now (regions .entry)) (now (cells .entry)) x (now (reply .entry)) ⌝ }
 {
-    if (x.family == instruction::OTHER) & (x.operator == 1) {
+    if (x.family == family::OTHER) & (x.operator == 1) {
         return RowOutcome::Refused(OTHER_INSTRUCTION);
     }
     if reply.len() != 0 {

@@ -6,7 +6,7 @@ ghost use Rattle.tables.specs.Rows.{regionRows};
 ghost use Rattle.tables.specs.Cells.{start, cellCount};
 ghost use Rattle.operands.specs.Address.{indexFits, indexedOf, indexedOutcome, namesSecond, indexesSecond, foundRegion, namedOf, namesOf, namesOutcome, writtenOf, addressesOf, indicesOutcome};
 ghost use Rattle.operands.specs.Reach.{Named};
-use tables::instruction;
+use tables::family;
 use tables::lookup::Found;
 use tables::lookup::lookup_region;
 use tables::rows::Instruction;
@@ -78,16 +78,14 @@ pub fn index_cell(regions: &[u64], r: usize, i: u64) -> Indexed
 fn names_second(family: u64) -> bool
     ensures { λ t. ⌜ t ≡ namesSecond family ⌝ }
 {
-    (family == instruction::COMPARISON)
-        | ((family == instruction::EXCHANGE)
-            | ((family == instruction::LOAD) | (family == instruction::STORE)))
+    (family == family::COMPARISON)
+        | ((family == family::EXCHANGE) | ((family == family::LOAD) | (family == family::STORE)))
 }
 
 fn indexes_second(family: u64) -> bool
     ensures { λ t. ⌜ t ≡ indexesSecond family ⌝ }
 {
-    (family == instruction::COMPARISON)
-        | ((family == instruction::EXCHANGE) | (family == instruction::STORE))
+    (family == family::COMPARISON) | ((family == family::EXCHANGE) | (family == family::STORE))
 }
 
 // The region of a name that is used.
@@ -105,7 +103,7 @@ pub fn named_regions(regions: &[u64], x: Instruction) -> Names
     ensures { λ n. ⌜ namesOutcome n ≡ namesOf (now (regions .entry)) x ⌝ }
 {
     let family = x.family;
-    let Found::At(first) = named_region(regions, family < instruction::FRAME, x.first_name) else {
+    let Found::At(first) = named_region(regions, family < family::FRAME, x.first_name) else {
         return Names::Undeclared;
     };
     let Found::At(second) = named_region(regions, names_second(family), x.second_name) else {
@@ -138,12 +136,8 @@ pub fn written_addresses(regions: &[u64], x: Instruction, n: NamedRegions) -> In
     ensures { λ a. ⌜ indicesOutcome a ≡ addressesOf (now (regions .entry)) x n ⌝ }
 {
     let family = x.family;
-    let Indexed::At(first) = written_cell(
-        regions,
-        family < instruction::STORE,
-        n.first,
-        x.first_index,
-    ) else {
+    let Indexed::At(first) = written_cell(regions, family < family::STORE, n.first, x.first_index)
+    else {
         return Indices::Past;
     };
     let Indexed::At(second) = written_cell(

@@ -9,7 +9,7 @@ use lib.ListN.{length, drop}
 use borrow.Author.Tests.{leb-true}
 use Rattle.tables.specs.Outcome.{Outcome, ok, refuse, _>>_}
 use Rattle.tables.specs.Tables.{Tables}
-use Rattle.loader.specs.Load.{loadOf}
+use Rattle.loader.specs.Load.{loadLook}
 use Rattle.tables.specs.Cells.{cellCount, cellsOf}
 use Rattle.loader.proofs.Loaded.{both, passed}
 use Rattle.tables.proofs.CellsLaws.{cells-given}
@@ -19,14 +19,14 @@ use Rattle.type_check.specs.declared.error.Verdict.the-variants as T
 use Rattle.operands.specs.Kinds.{zeros}
 use Rattle.operands.proofs.Binds.{bound}
 use Rattle.session.specs.Prepare.{entriesOf, buffersFit, preparedOf}
-use Rattle.opening.specs.Open.{start, programLook, Opening, opening, unlessRefused, unlessError, openTables}
+use Rattle.session_open.specs.Open.{start, programLook, Opening, opening, unlessRefused, unlessError, openTables}
 use Rattle.session.specs.declared.answer.OpenAnswer.the-variants.{Opened, Error}
 
 -- ---- 1, 2, 3, 10, 4
 
 -- they look at the tables and at lengths, which no call changes: after open neither forward nor back is refused with these numbers
 pub record Prepares (t : Tables) (memory words : ℕ) : Type 0 where
-  pub loads : loadOf t ≡ ok tt
+  pub loads : loadLook t ≡ ok tt
   pub given : preparedOf t memory words ≡ ok (cellCount (t .regions))
   pub room : 2 * cellCount (t .regions) ≤ memory
 
@@ -38,7 +38,7 @@ both-gave (refuse n) rest b e = let z : _≡_ {A = ℕ} 0 1 = cc in absurd (omeg
 pub prepares : (t : Tables) (memory words n : ℕ) → preparedOf t memory words ≡ ok n → Prepares t memory words
 unfolding preparedOf buffersFit
 prepares t memory words n e =
-    let (loads, e₁) = both-gave (loadOf t) _ n e in
+    let (loads, e₁) = both-gave (loadLook t) _ n e in
     let b = bound (cellsOf (t .regions)) _ n e₁ in
     let count = cells-given (t .regions) (b .value) (b .given) .0 in
     let (fits, e₂) = passed (leb (2 * b .value) memory && (eqb (words % 3) 0 && leb (entriesOf words) 2048)) _ _ n (b .rest) in

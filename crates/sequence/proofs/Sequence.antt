@@ -13,7 +13,7 @@ use Rattle.journal.specs.Cells.{held}
 use Rattle.journal.specs.Each.{Each, none, also}
 use Rattle.journal.specs.Entries.{log, closing}
 use Rattle.session.specs.Answer.{positionOf}
-use Rattle.opening.specs.Open as O
+use Rattle.session_open.specs.Open as O
 use Rattle.session.specs.Forward.{Left, left}
 use Rattle.session.specs.Back.{Back}
 use Rattle.session.specs.declared.answer.StepAnswer.{StepAnswer}

@@ -9,7 +9,7 @@ use Rattle.type_check.specs.Judgement.{Judgement, undefinedMemoryReference, dat
 use Rattle.type_check.specs.declared.error.Verdict.{Verdict}
 use Rattle.type_check.specs.declared.error.Verdict.the-variants as T
 use Rattle.journal.specs.declared.position.Position.{Position}
-use Rattle.opening.specs.Open as O
+use Rattle.session_open.specs.Open as O
 use Rattle.session.specs.declared.answer.OpenAnswer.{OpenAnswer}
 use Rattle.session.specs.declared.answer.OpenAnswer.the-variants.{Opened, Error}
 use Rattle.session.specs.declared.answer.StepAnswer.the-variants.{Moved, Refused}

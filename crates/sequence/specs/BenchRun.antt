@@ -17,7 +17,7 @@ use Rattle.loader.specs.Allowed.{regionAllowed, nodeAllowed, regionsAllowed, ex
 use Rattle.loader.specs.Instruction.{operatorsOf, formAllowed, sourceAllowed, operandsAllowed, instructionAllowed, instructionsAllowed}
 use Rattle.tables.specs.Tree.{arityOf, treesFrom, inside, oneTree}
 use Rattle.tables.specs.Lookup.{lookupOf, lookupAmong, distinct}
-use Rattle.loader.specs.Load.{loadOf, allowedTables, distinctNames}
+use Rattle.loader.specs.Load.{loadLook, allowedTables, distinctNames}
 use Rattle.tables.specs.Cells.{start, cellCount, cellsOf}
 use Rattle.type_check.specs.Rule.{arithmeticRule, sourceRule, logicSource, logicRule, moveRule, exchangeRule, loadKinds, loadRule, storeSource, storeRule, ruleOf}
 use Rattle.type_check.specs.Codes.{kindCode, codeOf, operandCode, sourceCode, rowRule}
@@ -33,7 +33,7 @@ use Rattle.operators.specs.Operators.{integerResult, arithmeticResult, logicRes
 use Rattle.machine.specs.Families as families
 use Rattle.machine.specs.Outcome.{plainOutcome, outcomeOf, outcomeAt}
 use Rattle.session.specs.Prepare.{buffersFit, preparedOf}
-use Rattle.opening.specs.Open.{noOther, callLook, callsLook, programLook, openTables}
+use Rattle.session_open.specs.Open.{noOther, callLook, callsLook, programLook, openTables}
 use Rattle.session.specs.Forward.{positionFits, roomFor, stepLook, rowLook, forwardLook, leaves, forwardTables}
 use Rattle.session.specs.Back.{journalLook, takeBackLook, backLook, backLeaves, backTables}
 use Rattle.session.specs.declared.answer.OpenAnswer.{OpenAnswer}
@@ -90,7 +90,7 @@ pub record Run : Type 0 where
 unfoldable pub run : List ℕ → List ℕ → ℕ → List Call → Run
 unfolding fitsKind widthOf lowBits signed wordOf integerIsNegative integerDivide integerQuotient shiftLeft shiftRightArithmetic shifted shlAt ashrAt
     realAboveEpsilon size ofBits lt
-    _>>=_ _>>_ need first every loadOf wholeTables wholeRows allowedTables regionsAllowed regionAllowed externsAllowed parametersAllowed nodesAllowed
+    _>>=_ _>>_ need first every loadLook wholeTables wholeRows allowedTables regionsAllowed regionAllowed externsAllowed parametersAllowed nodesAllowed
     nodeAllowed argumentsAllowed instructionsAllowed instructionAllowed operatorsOf formAllowed sourceAllowed operandsAllowed oneTree inside treesFrom
     arityOf distinctNames distinct lookupOf lookupAmong cellsOf cellCount start
     checkOf verdictOf judgementOf rowRule ruleOf sourceCode operandCode codeOf kindCode arithmeticRule sourceRule logicRule logicSource moveRule

@@ -5,7 +5,7 @@ use lib.ListN.{length}
 use Rattle.tables.specs.Tables.{Tables}
 use Rattle.journal.specs.declared.position.Position.{Position}
 use Rattle.session.specs.Answer.{positionOf}
-use Rattle.opening.specs.Open as O
+use Rattle.session_open.specs.Open as O
 use Rattle.session.specs.Forward.{Left, left, forwardTables}
 use Rattle.session.specs.Back.{backTables}
 use Rattle.session.specs.declared.answer.StepAnswer.{StepAnswer}

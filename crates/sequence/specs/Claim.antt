@@ -9,7 +9,7 @@ use Rattle.tables.specs.Rows.{instructionAt}
 use Rattle.tables.specs.Cells.{cellCount}
 use Rattle.journal.specs.Cells.{held}
 use Rattle.journal.specs.Each.{Each}
-use Rattle.opening.specs.Open as O
+use Rattle.session_open.specs.Open as O
 use Rattle.session.specs.Forward.{rowOf}
 use Rattle.session.specs.declared.answer.OpenAnswer.the-variants.{Opened}
 use Rattle.session.specs.declared.answer.StepAnswer.{StepAnswer}

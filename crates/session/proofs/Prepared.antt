@@ -10,7 +10,7 @@ use lib.Dec.{eqb, leb}
 use borrow.Author.Tests.{eqb-true, leb-true}
 use Rattle.tables.specs.Outcome.{Outcome, ok, refuse, _>>=_, _>>_}
 use Rattle.tables.specs.Tables.{Tables}
-use Rattle.loader.specs.Load.{loadOf}
+use Rattle.loader.specs.Load.{loadLook}
 use Rattle.tables.specs.Cells.{cellCount, cellsOf}
 use Rattle.loader.proofs.Loaded.{both, passed}
 use Rattle.tables.proofs.CellsLaws.{cells-given}
@@ -32,7 +32,7 @@ fitting cells memory journal e =
 
 -- behind 1, 2, 3, 10 and 4
 pub record Facts (t : Tables) (memory journal n : ℕ) : Type 0 where
-  pub loads : loadOf t ≡ ok tt
+  pub loads : loadLook t ≡ ok tt
   pub count : n ≡ cellCount (t .regions)
   pub few : n ≤ 4096
   pub room : 2 * n ≤ memory
@@ -47,7 +47,7 @@ then-ok (refuse n) r b e = let z : _≡_ {A = ℕ} 0 1 = cc in absurd (omega ari
 pub prepared : (t : Tables) (memory journal : ℕ) {n : ℕ} → preparedOf t memory journal ≡ ok n → Facts t memory journal n
 unfolding preparedOf
 prepared t memory journal {n} e =
-    let (l, e₁) = then-ok (loadOf t) _ n e in
+    let (l, e₁) = then-ok (loadLook t) _ n e in
     let b = bound (cellsOf (t .regions)) _ n e₁ in
     let (f, e₂) = passed (buffersFit (b .value) memory journal) _ _ n (b .rest) in
     let q : b .value ≡ n = cc in

@@ -8,7 +8,7 @@ use lib.Dec.{eqb, leb}
 use Rattle.tables.specs.Refusal.{bufferSize}
 use Rattle.tables.specs.Outcome.{Outcome, ok, refuse, _>>=_, _>>_, need}
 use Rattle.tables.specs.Tables.{Tables}
-use Rattle.loader.specs.Load.{loadOf}
+use Rattle.loader.specs.Load.{loadLook}
 use Rattle.tables.specs.Cells.{cellCount, cellsOf}
 use Rattle.session.specs.declared.prepare.Prepared.{Prepared}
 use Rattle.session.specs.declared.prepare.Prepared.the-variants.{Cells, Refused}
@@ -24,7 +24,7 @@ buffersFit cells memory journal = leb (2 * cells) memory && (eqb (journal % 3) 0
 -- the number of cells
 unfoldable pub preparedOf : Tables → ℕ → ℕ → Outcome ℕ
 preparedOf t memory journal = do
-  loadOf t
+  loadLook t
   n ← cellsOf (t .regions)
   need (buffersFit n memory journal) bufferSize
   ok n
@@ -36,7 +36,7 @@ preparedOutcome (Refused number) = refuse number
 
 -- What the functions behind these looks ask for: the tables are loaded, the cells are those of their regions, and the journal has whole entries, not too many.
 pub record Ready (t : Tables) (cells : List ℕ) (journal : ℕ) : Type 0 where
-  pub loads : loadOf t ≡ ok tt
+  pub loads : loadLook t ≡ ok tt
   pub few : cellCount (t .regions) ≤ 4096
   pub wide : length cells ≡ 2 * cellCount (t .regions)
   pub whole : journal % 3 ≡ 0

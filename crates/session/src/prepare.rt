@@ -5,10 +5,10 @@ ghost use Rattle.tables.specs.Tables.{tablesOf};
 ghost use Rattle.session.specs.Prepare.{buffersFit, preparedOf, preparedOutcome};
 use journal::cells::CELL_WIDTH;
 use journal::entries::ENTRY_WIDTH;
-use loader::load::Load;
 use loader::load::load_tables;
 use tables::cells::Cells;
 use tables::cells::cell_count;
+use tables::look::Look;
 use tables::refusal::BUFFER_SIZE;
 use tables::refusal::TOO_MANY_CELLS;
 
@@ -44,7 +44,7 @@ pub fn prepare(
     ensures { λ r. ⌜ preparedOutcome r ≡ preparedOf (tablesOf (now (regions .entry)) (now (externs .entry)) (now (parameters .entry)) (now (nodes .entry)) (now (arguments .entry)) (now (instructions .entry))) memory journal ⌝ }
 {
     let loaded = load_tables(regions, externs, parameters, nodes, arguments, instructions);
-    if let Load::Refused(number) = loaded {
+    if let Look::Refused(number) = loaded {
         return Prepared::Refused(number);
     }
     let Cells::Count(cells) = cell_count(regions) else {

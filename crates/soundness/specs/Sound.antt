@@ -10,7 +10,7 @@ use Rattle.tables.specs.Outcome.{Outcome, ok, refuse}
 use Rattle.tables.specs.Tables.{Tables}
 use Rattle.tables.specs.Rows.{regionName, instructionRows, instructionAt}
 use Rattle.tables.specs.Cells.{cellCount}
-use Rattle.loader.specs.Load.{loadOf}
+use Rattle.loader.specs.Load.{loadLook}
 use Rattle.tables.specs.declared.rows.Instruction.{Instruction}
 use Rattle.type_check.specs.Check.{checkOf}
 use Rattle.type_check.specs.declared.error.Verdict.the-variants.{Accepted}
@@ -28,7 +28,7 @@ use Rattle.machine.specs.Outcome.{isCall, outcomeAt}
 
 -- Of open's acceptance: the loader's looks (1, 2, 3) and the type check (5). That every CALL resolves (6, 7, 8) is not used: a CALL that does not is refused by these numbers.
 pub record Checked (t : Tables) : Type 0 where
-  pub loads : loadOf t ≡ ok tt
+  pub loads : loadLook t ≡ ok tt
   pub passes : checkOf (t .regions) (t .nodes) (t .instructions) ≡ Accepted
   -- "Tables, in 64-bit words"
   pub words : (i : ℕ) → getD (t .instructions) i 0 < 2 ^ 64

@@ -1,4 +1,4 @@
 // The console in a terminal.
 fn main() {
-    terminal::run::run();
+    stepper_keys::run::run();
 }

@@ -1,4 +1,4 @@
 // The console's verdict on a program with a type error.
 fn main() {
-    terminal::run::run();
+    stepper_keys::run::run();
 }

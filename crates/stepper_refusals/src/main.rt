@@ -1,4 +1,4 @@
 // The page of refusals, as the console shows it for `refusals` and the key p.
 fn main() {
-    screen_text::page::page();
+    stepper_screen::page::page();
 }

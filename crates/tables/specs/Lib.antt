@@ -1,6 +1,15 @@
 pub mod Refusal
 pub mod Outcome
+pub mod Look
 pub mod First
+pub mod Cases
+pub mod Family
+pub mod Operator
+pub mod Source
+pub mod NodeTag
+pub mod ArgumentForm
+pub mod ParameterShape
+pub mod Names
 pub mod Tables
 pub mod Rows
 pub mod Lookup

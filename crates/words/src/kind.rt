@@ -10,6 +10,11 @@ pub const OCTET: u64 = 2;
 
 pub const REAL: u64 = 3;
 
+// A literal's code, beside the kinds.
+pub const INTEGER_LITERAL: u64 = 4;
+
+pub const REAL_LITERAL: u64 = 5;
+
 // How many bits a word of a kind has.
 pub fn width(kind: u64) -> u64
     ensures { λ r. ⌜ r ≡ widthOf kind ⌝ }

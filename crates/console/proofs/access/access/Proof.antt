@@ -1,6 +1,6 @@
 use mathlib.Core.Path.{ap, _∙_}
 use Rattle.tables.specs.Outcome.{seen}
-use Rattle.loader.specs.Load.{loadOutcome}
+use Rattle.tables.specs.Look.{lookOutcome}
 use Rattle.tables.specs.declared.rows.Instruction.{Instruction}
 use Rattle.loader.proofs.Loaded.{loaded-row, chosen}
 use Rattle.console.specs.Access.{accessTables}
@@ -23,16 +23,16 @@ enum-known-loaded c = search needs
 
 returns : tie.Need-returns
 unfolding accessTables
-returns c = rw (seen loadOutcome (c .before .before .before .load-row .ensures) (c .before .loaded .given .1))
+returns c = rw (seen lookOutcome (c .before .before .before .load-row .ensures) (c .before .loaded .given .1))
 
 enum-told : tie.Need-enum-told
 enum-told c = search needs
 
 instruction-at-requires : tie.Need-instruction-at-requires
-instruction-at-requires c κs = chosen _ _ _ (loaded-row _ _ _ (seen loadOutcome (c .before .before .load-row .ensures) (c .enum-told .given .1)) .1) .0
+instruction-at-requires c κs = chosen _ _ _ (loaded-row _ _ _ (seen lookOutcome (c .before .before .load-row .ensures) (c .enum-told .given .1)) .1) .0
 
 access-call-requires : tie.Need-access-call-requires
-access-call-requires c κs = rw (c .before .before .instruction-at .ensures) (call-ranges _ (loaded-row _ _ _ (seen loadOutcome (c .before .before .before .before .before .load-row .ensures) (c .before .before .before .enum-told .given .1)) .0) (loaded-row _ _ _ (seen loadOutcome (c .before .before .before .before .before .load-row .ensures) (c .before .before .before .enum-told .given .1)) .1))
+access-call-requires c κs = rw (c .before .before .instruction-at .ensures) (call-ranges _ (loaded-row _ _ _ (seen lookOutcome (c .before .before .before .before .before .load-row .ensures) (c .before .before .before .enum-told .given .1)) .0) (loaded-row _ _ _ (seen lookOutcome (c .before .before .before .before .before .load-row .ensures) (c .before .before .before .enum-told .given .1)) .1))
 
 same-length : tie.Need-same-length
 same-length c = search needs
@@ -42,7 +42,7 @@ same-length-2 c = search needs
 
 returns-2 : tie.Need-returns-2
 unfolding accessTables
-returns-2 c = rw (seen loadOutcome (c .before .before .before .before .before .before .before .before .before .before .load-row .ensures) (c .before .before .before .before .before .before .before .before .enum-told .given .1)) (rw (c .before .before .before .before .before .before .before .instruction-at .ensures) at (c .before .before .before .before .access-call .ensures))
+returns-2 c = rw (seen lookOutcome (c .before .before .before .before .before .before .before .before .before .before .load-row .ensures) (c .before .before .before .before .before .before .before .before .enum-told .given .1)) (rw (c .before .before .before .before .before .before .before .instruction-at .ensures) at (c .before .before .before .before .access-call .ensures))
 
 pub access-spec : {M : Type 1} → statement M
 access-spec =

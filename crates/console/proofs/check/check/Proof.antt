@@ -1,6 +1,6 @@
 use mathlib.Core.Path.{ap, _∙_}
 use Rattle.tables.specs.Outcome.{seen}
-use Rattle.loader.specs.Load.{loadOutcome}
+use Rattle.tables.specs.Look.{lookOutcome}
 use Rattle.loader.proofs.Loaded.{loaded}
 use Rattle.console.specs.Check.{verdictAnswer, checkTables}
 use Rattle.type_check.proofs.CheckLaws.{loaded-frames}
@@ -21,20 +21,20 @@ enum-known-loaded c = search needs
 
 returns : tie.Need-returns
 unfolding checkTables
-returns c = rw (seen loadOutcome (c .before .before .before .load-tables .ensures) (c .before .loaded .given .1))
+returns c = rw (seen lookOutcome (c .before .before .before .load-tables .ensures) (c .before .loaded .given .1))
 
 enum-told : tie.Need-enum-told
 enum-told c = search needs
 
 check-program-requires : tie.Need-check-program-requires
-check-program-requires c κs = loaded-frames (loaded _ (seen loadOutcome (c .before .before .load-tables .ensures) (c .enum-told .given .1)))
+check-program-requires c κs = loaded-frames (loaded _ (seen lookOutcome (c .before .before .load-tables .ensures) (c .enum-told .given .1)))
 
 verdict-answer-requires : tie.Need-verdict-answer-requires
 verdict-answer-requires c κs = search needs
 
 returns-2 : tie.Need-returns-2
 unfolding checkTables
-returns-2 c = rw (seen loadOutcome (c .before .before .before .before .load-tables .ensures) (c .before .before .enum-told .given .1)) (c .verdict-answer .ensures ∙ ap verdictAnswer (c .before .check-program .ensures))
+returns-2 c = rw (seen lookOutcome (c .before .before .before .before .load-tables .ensures) (c .before .before .enum-told .given .1)) (c .verdict-answer .ensures ∙ ap verdictAnswer (c .before .check-program .ensures))
 
 pub check-spec : {M : Type 1} → statement M
 check-spec =

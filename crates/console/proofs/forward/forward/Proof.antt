@@ -6,7 +6,7 @@ use Rattle.tables.specs.Outcome.{_>>=_, seen}
 use Rattle.session.specs.Prepare.{preparedOutcome}
 use Rattle.session.specs.Forward.{leaves, forwardLook, forwardTables}
 use Rattle.session.proofs.Prepared.{prepared, ready}
-use Rattle.stepping.proofs.StepLaws.{ready-steppable}
+use Rattle.session_forward.proofs.StepLaws.{ready-steppable}
 use Rattle.session.proofs.PastLaws.{forward-on}
 use borrow.Author.Needs.{needs}
 use Rattle.console.proofs.forward.forward.Statement.{statement}

@@ -4,9 +4,9 @@ use native.Mathlib.Omega.{arith}
 use lib.Seq.{length-take-le}
 use Rattle.tables.specs.Outcome.{seen}
 use Rattle.session.specs.Prepare.{preparedOutcome}
-use Rattle.opening.specs.Open.{openTables}
+use Rattle.session_open.specs.Open.{openTables}
 use Rattle.session.proofs.Prepared.{prepared, ready}
-use Rattle.opening.proofs.OpenLaws.{ready-open, opens-past}
+use Rattle.session_open.proofs.OpenLaws.{ready-open, opens-past}
 use borrow.Author.Needs.{needs}
 use Rattle.console.proofs.open.open.Statement.{statement}
 use Rattle.console.proofs.open.open.Tie as tie

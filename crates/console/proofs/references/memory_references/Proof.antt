@@ -1,6 +1,6 @@
 use mathlib.Core.Path.{ap}
 use Rattle.tables.specs.Outcome.{seen}
-use Rattle.loader.specs.Load.{loadOutcome}
+use Rattle.tables.specs.Look.{lookOutcome}
 use Rattle.loader.proofs.Loaded.{loaded-nodes}
 use Rattle.console.specs.References.{referencesTable}
 use Rattle.console.specs.declared.references.WalkAnswer.the-variants.{Went}
@@ -20,17 +20,17 @@ enum-known-loaded c = search needs
 
 returns : tie.Need-returns
 unfolding referencesTable
-returns c = rw (seen loadOutcome (c .before .before .before .load-nodes .ensures) (c .before .loaded .given .1))
+returns c = rw (seen lookOutcome (c .before .before .before .load-nodes .ensures) (c .before .loaded .given .1))
 
 enum-told : tie.Need-enum-told
 enum-told c = search needs
 
 next-in-requires : tie.Need-next-in-requires
-next-in-requires c κs = loaded-nodes _ _ _ (seen loadOutcome (c .before .before .load-nodes .ensures) (c .enum-told .given .1))
+next-in-requires c κs = loaded-nodes _ _ _ (seen lookOutcome (c .before .before .load-nodes .ensures) (c .enum-told .given .1))
 
 returns-2 : tie.Need-returns-2
 unfolding referencesTable
-returns-2 c = rw (seen loadOutcome (c .before .before .before .load-nodes .ensures) (c .before .enum-told .given .1)) (ap Went (c .next-in .ensures))
+returns-2 c = rw (seen lookOutcome (c .before .before .before .load-nodes .ensures) (c .before .enum-told .given .1)) (ap Went (c .next-in .ensures))
 
 pub memory-references-spec : {M : Type 1} → statement M
 memory-references-spec =

@@ -1,6 +1,6 @@
 use mathlib.Core.Path.{ap, _∙_}
 use Rattle.tables.specs.Outcome.{seen}
-use Rattle.loader.specs.Load.{loadOutcome}
+use Rattle.tables.specs.Look.{lookOutcome}
 use Rattle.tables.specs.declared.rows.Instruction.{Instruction}
 use Rattle.loader.proofs.Loaded.{loaded-row, chosen}
 use Rattle.console.specs.Resolve.{resolveTables}
@@ -23,23 +23,23 @@ enum-known-loaded c = search needs
 
 returns : tie.Need-returns
 unfolding resolveTables
-returns c = rw (seen loadOutcome (c .before .before .before .load-row .ensures) (c .before .loaded .given .1))
+returns c = rw (seen lookOutcome (c .before .before .before .load-row .ensures) (c .before .loaded .given .1))
 
 enum-told : tie.Need-enum-told
 enum-told c = search needs
 
 instruction-at-requires : tie.Need-instruction-at-requires
-instruction-at-requires c κs = chosen _ _ _ (loaded-row _ _ _ (seen loadOutcome (c .before .before .load-row .ensures) (c .enum-told .given .1)) .1) .0
+instruction-at-requires c κs = chosen _ _ _ (loaded-row _ _ _ (seen lookOutcome (c .before .before .load-row .ensures) (c .enum-told .given .1)) .1) .0
 
 resolve-call-requires : tie.Need-resolve-call-requires
-resolve-call-requires c κs = rw (c .before .instruction-at .ensures) (call-ranges _ (loaded-row _ _ _ (seen loadOutcome (c .before .before .before .before .load-row .ensures) (c .before .before .enum-told .given .1)) .0) (loaded-row _ _ _ (seen loadOutcome (c .before .before .before .before .load-row .ensures) (c .before .before .enum-told .given .1)) .1))
+resolve-call-requires c κs = rw (c .before .instruction-at .ensures) (call-ranges _ (loaded-row _ _ _ (seen lookOutcome (c .before .before .before .before .load-row .ensures) (c .before .before .enum-told .given .1)) .0) (loaded-row _ _ _ (seen lookOutcome (c .before .before .before .before .load-row .ensures) (c .before .before .enum-told .given .1)) .1))
 
 same-length : tie.Need-same-length
 same-length c = search needs
 
 returns-2 : tie.Need-returns-2
 unfolding resolveTables
-returns-2 c = rw (seen loadOutcome (c .before .before .before .before .before .before .before .load-row .ensures) (c .before .before .before .before .before .enum-told .given .1)) (rw (c .before .before .before .before .instruction-at .ensures) at (c .before .before .resolve-call .ensures))
+returns-2 c = rw (seen lookOutcome (c .before .before .before .before .before .before .before .load-row .ensures) (c .before .before .before .before .before .enum-told .given .1)) (rw (c .before .before .before .before .instruction-at .ensures) at (c .before .before .resolve-call .ensures))
 
 pub resolve-spec : {M : Type 1} → statement M
 resolve-spec =

@@ -2,7 +2,7 @@ use mathlib.Core.Path.{sym, _∙_}
 use borrow.Author.Needs.{needs}
 use borrow.Author.Tests.{not-true, not-false}
 use Rattle.tables.specs.Outcome.{_>>=_, _>>_, need}
-use Rattle.loader.specs.Load.{loadRowOf}
+use Rattle.loader.specs.Load.{loadRowLook}
 use Rattle.loader.proofs.Loaded.{whole-nodes}
 use Rattle.loader.proofs.load.load_row.Statement.{statement}
 use Rattle.loader.proofs.load.load_row.Tie as tie
@@ -11,32 +11,32 @@ whole-tables-requires : tie.Need-whole-tables-requires
 whole-tables-requires c κs = search needs
 
 returns : tie.Need-returns
-unfolding loadRowOf _>>=_ _>>_ need
+unfolding loadRowLook _>>=_ _>>_ need
 returns c = rw (sym (c .before .whole-tables .ensures) ∙ not-true _ (c .if1 .taken))
 
 allowed-tables-requires : tie.Need-allowed-tables-requires
 allowed-tables-requires c κs = whole-nodes _ (sym (c .before .whole-tables .ensures) ∙ not-false _ (c .if1 .left))
 
 returns-2 : tie.Need-returns-2
-unfolding loadRowOf _>>=_ _>>_ need
+unfolding loadRowLook _>>=_ _>>_ need
 returns-2 c = rw (sym (c .before .before .before .whole-tables .ensures) ∙ not-false _ (c .before .before .if1 .left), sym (c .before .allowed-tables .ensures) ∙ not-true _ (c .if2 .taken))
 
 chosen-row-requires : tie.Need-chosen-row-requires
 chosen-row-requires c κs = search needs
 
 returns-3 : tie.Need-returns-3
-unfolding loadRowOf _>>=_ _>>_ need
+unfolding loadRowLook _>>=_ _>>_ need
 returns-3 c = rw (sym (c .before .before .before .before .before .whole-tables .ensures) ∙ not-false _ (c .before .before .before .before .if1 .left), sym (c .before .before .before .allowed-tables .ensures) ∙ not-false _ (c .before .before .if2 .left), sym (c .before .chosen-row .ensures) ∙ not-true _ (c .if3 .taken))
 
 distinct-tables-requires : tie.Need-distinct-tables-requires
 distinct-tables-requires c κs = search needs
 
 returns-4 : tie.Need-returns-4
-unfolding loadRowOf _>>=_ _>>_ need
+unfolding loadRowLook _>>=_ _>>_ need
 returns-4 c = rw (sym (c .before .before .before .before .before .before .before .whole-tables .ensures) ∙ not-false _ (c .before .before .before .before .before .before .if1 .left), sym (c .before .before .before .before .before .allowed-tables .ensures) ∙ not-false _ (c .before .before .before .before .if2 .left), sym (c .before .before .before .chosen-row .ensures) ∙ not-false _ (c .before .before .if3 .left), sym (c .before .distinct-tables .ensures) ∙ not-true _ (c .if4 .taken))
 
 returns-5 : tie.Need-returns-5
-unfolding loadRowOf _>>=_ _>>_ need
+unfolding loadRowLook _>>=_ _>>_ need
 returns-5 c = rw (sym (c .before .before .before .before .before .before .before .whole-tables .ensures) ∙ not-false _ (c .before .before .before .before .before .before .if1 .left), sym (c .before .before .before .before .before .allowed-tables .ensures) ∙ not-false _ (c .before .before .before .before .if2 .left), sym (c .before .before .before .chosen-row .ensures) ∙ not-false _ (c .before .before .if3 .left), sym (c .before .distinct-tables .ensures) ∙ not-false _ (c .if4 .left))
 
 pub load-row-spec : {M : Type 1} → statement M

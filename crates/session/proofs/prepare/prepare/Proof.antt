@@ -1,7 +1,7 @@
 use mathlib.Core.Path.{sym, _∙_}
 use borrow.Author.Tests.{not-true, not-false}
 use Rattle.tables.specs.Outcome.{_>>=_, _>>_, need, seen}
-use Rattle.loader.specs.Load.{loadOutcome}
+use Rattle.tables.specs.Look.{lookOutcome}
 use Rattle.tables.specs.Cells.{cellsOutcome}
 use Rattle.tables.proofs.CellsLaws.{cells-given}
 use Rattle.session.specs.Prepare.{preparedOf}
@@ -17,7 +17,7 @@ enum-known-loaded c = search needs
 
 returns : tie.Need-returns
 unfolding preparedOf _>>_
-returns c = rw (seen loadOutcome (c .before .before .before .load-tables .ensures) (c .before .loaded .given .1))
+returns c = rw (seen lookOutcome (c .before .before .before .load-tables .ensures) (c .before .loaded .given .1))
 
 enum-told : tie.Need-enum-told
 enum-told c = search needs
@@ -33,18 +33,18 @@ enum-told-2 c = search needs
 
 returns-2 : tie.Need-returns-2
 unfolding preparedOf _>>=_ _>>_
-returns-2 c = rw (seen loadOutcome (c .before .before .before .before .before .load-tables .ensures) (c .before .before .before .enum-told .given .1), seen cellsOutcome (c .before .before .cell-count .ensures) (c .enum-told2 .given .1))
+returns-2 c = rw (seen lookOutcome (c .before .before .before .before .before .load-tables .ensures) (c .before .before .before .enum-told .given .1), seen cellsOutcome (c .before .before .cell-count .ensures) (c .enum-told2 .given .1))
 
 buffers-fit-requires : tie.Need-buffers-fit-requires
 buffers-fit-requires c κs = cells-given _ _ (seen cellsOutcome (c .before .before .before .cell-count .ensures) (c .before .cells .given .1)) .1
 
 returns-3 : tie.Need-returns-3
 unfolding preparedOf _>>=_ _>>_ need
-returns-3 c = rw (seen loadOutcome (c .before .before .before .before .before .before .before .before .load-tables .ensures) (c .before .before .before .before .before .before .enum-told .given .1), seen cellsOutcome (c .before .before .before .before .before .cell-count .ensures) (c .before .before .before .cells .given .1), sym (c .before .buffers-fit .ensures) ∙ not-true _ (c .if1 .taken))
+returns-3 c = rw (seen lookOutcome (c .before .before .before .before .before .before .before .before .load-tables .ensures) (c .before .before .before .before .before .before .enum-told .given .1), seen cellsOutcome (c .before .before .before .before .before .cell-count .ensures) (c .before .before .before .cells .given .1), sym (c .before .buffers-fit .ensures) ∙ not-true _ (c .if1 .taken))
 
 returns-4 : tie.Need-returns-4
 unfolding preparedOf _>>=_ _>>_ need
-returns-4 c = rw (seen loadOutcome (c .before .before .before .before .before .before .before .before .load-tables .ensures) (c .before .before .before .before .before .before .enum-told .given .1), seen cellsOutcome (c .before .before .before .before .before .cell-count .ensures) (c .before .before .before .cells .given .1), sym (c .before .buffers-fit .ensures) ∙ not-false _ (c .if1 .left))
+returns-4 c = rw (seen lookOutcome (c .before .before .before .before .before .before .before .before .load-tables .ensures) (c .before .before .before .before .before .before .enum-told .given .1), seen cellsOutcome (c .before .before .before .before .before .cell-count .ensures) (c .before .before .before .cells .given .1), sym (c .before .buffers-fit .ensures) ∙ not-false _ (c .if1 .left))
 
 pub prepare-spec : {M : Type 1} → statement M
 prepare-spec =

@@ -1,0 +1,67 @@
+-- `call_cases::walks::walk` is safe and ends. The measure is the number of steps that are left. Nothing has to hold from turn to turn.
+-- Assumes nothing.
+use borrow.Author.Needs.{needs}
+use Prim.Native.Nat.{_-_}
+use Rattle.cases_calls.proofs.walks.walk.Statement.{statement}
+use Rattle.cases_calls.proofs.walks.walk.Tie as tie
+
+abbrev Inv-loop : tie.InvT-loop
+Inv-loop nodes first count place₀ steps₀ t7 place steps = Unit {0}
+
+abbrev μ-loop : tie.MeasureT-loop
+μ-loop nodes first count place₀ steps₀ t7 place steps = 6 - steps
+
+number-requires : tie.Need-number-requires Inv-loop μ-loop
+number-requires c κs = search needs
+
+number-requires-2 : tie.Need-number-requires-2 Inv-loop μ-loop
+number-requires-2 c κs = search needs
+
+slice-aggregate-text : tie.Need-slice-aggregate-text Inv-loop μ-loop
+slice-aggregate-text c = search needs
+
+text-requires : tie.Need-text-requires Inv-loop μ-loop
+text-requires c κs = search needs
+
+loop-holds : tie.Need-loop-holds Inv-loop μ-loop
+loop-holds c = search needs
+
+step-requires : tie.Need-step-requires Inv-loop μ-loop
+step-requires c κs = search needs
+
+add-steps : tie.Need-add-steps Inv-loop μ-loop
+add-steps c = search needs
+
+loop-less : tie.Need-loop-less Inv-loop μ-loop
+loop-less c = search needs
+
+loop-again : tie.Need-loop-again Inv-loop μ-loop
+loop-again c = search needs
+
+slice-aggregate-text-2 : tie.Need-slice-aggregate-text-2 Inv-loop μ-loop
+slice-aggregate-text-2 c = search needs
+
+text-requires-2 : tie.Need-text-requires-2 Inv-loop μ-loop
+text-requires-2 c κs = search needs
+
+returns : tie.Need-returns Inv-loop μ-loop
+returns c = search needs
+
+pub walk-spec : {M : Type 1} → statement M
+walk-spec =
+    tie.close
+    (tie.spec
+    Inv-loop
+    μ-loop
+    number-requires
+    number-requires-2
+    slice-aggregate-text
+    text-requires
+    loop-holds
+    step-requires
+    add-steps
+    loop-less
+    loop-again
+    slice-aggregate-text-2
+    text-requires-2
+    returns)

@@ -1,0 +1,126 @@
+-- Forward's parts: the row at a position, what its functions ask for, and a step's end, 13 or the writes. Assumes nothing.
+use Prim.Native.Nat.{ℕ, _+_, _*_, _-_, _<_, _≤_}
+use mathlib.Core.Bool.{Bool, true, false}
+use mathlib.Core.List.{List, [], _∷_}
+use mathlib.Core.Path.{_≡_, refl}
+use native.Mathlib.Omega.{arith}
+use lib.ListN.{length}
+use lib.Dec.{ltb, leb}
+use borrow.Author.Tests.{ltb-true, leb-true}
+use Rattle.tables.specs.Outcome.{Outcome, ok, refuse, _>>=_, _>>_, need}
+use Rattle.tables.specs.Tables.{Tables}
+use Rattle.tables.specs.Rows.{instructionRows, instructionAt}
+use Rattle.loader.specs.Instruction as I
+use Rattle.tables.specs.declared.rows.Instruction.{Instruction}
+use Rattle.loader.proofs.Loaded.{Loaded, loaded, both, passed, few-instructions, instruction-allowed, call-arguments, extern-parameters}
+use Rattle.extern_call.specs.Call.{CallRanges}
+use Rattle.journal.specs.declared.cells.Write.{Write}
+use Rattle.journal.specs.Each.{Each, none, also}
+use Rattle.journal.specs.declared.position.Position.{Position}
+use Rattle.journal.specs.Position.{advanced}
+use Rattle.journal.specs.Cells.{applied}
+use Rattle.journal.specs.Entries.{journaled}
+use Rattle.machine.specs.Outcome.{outcomeOf, outcomeAt}
+use Rattle.operands.specs.Reach.{There, Layout}
+use Rattle.machine.specs.Reach.{Opened}
+use Rattle.operands.proofs.Reaches.{in-cells}
+use Rattle.machine.proofs.WritesLaws.{Within}
+use Rattle.session.specs.Prepare.{entriesOf, Ready}
+use Rattle.session.specs.Forward.{rowOf, positionFits, roomFor, stepLook, rowLook, left, stepped}
+use Rattle.session_forward.specs.Step.{currentRow, rowLeaves, Placed, Steppable}
+use Rattle.session.specs.declared.answer.StepAnswer.the-variants.{Moved, Refused}
+use Rattle.session.proofs.PositionLaws.{fits-used}
+
+-- ---- the row at a position
+
+module _ (t : Tables) (cells : List ℕ) (entries : ℕ) (p : Position) (reply : List ℕ) where
+  row-look : rowLook t cells entries p reply ≡ (currentRow (t .instructions) entries p >>= (λ x. outcomeOf t cells x reply >>= roomFor entries p))
+  unfolding rowLook stepLook currentRow outcomeAt _>>=_ _>>_ need
+  row-look = at (positionFits (instructionRows (t .instructions)) entries p) (ltb (rowOf p) (instructionRows (t .instructions)))
+    where
+      at : (a b : Bool)
+          → (need a 19 >> (need b 11 >> (outcomeOf t cells (instructionAt (t .instructions) (rowOf p)) reply >>= roomFor entries p)))
+          ≡ ((need a 19 >> (need b 11 >> ok (instructionAt (t .instructions) (rowOf p)))) >>= (λ x. outcomeOf t cells x reply >>= roomFor entries p))
+      at true true = refl
+      at true false = refl
+      at false b = refl
+
+  pub row-refused : {number : ℕ} → currentRow (t .instructions) entries p ≡ refuse number → rowLook t cells entries p reply ≡ refuse number
+  unfolding _>>=_
+  row-refused e = rw (row-look, e)
+
+  pub row-taken : {x : Instruction} → currentRow (t .instructions) entries p ≡ ok x → rowLook t cells entries p reply ≡ (outcomeOf t cells x reply >>= roomFor entries p)
+  unfolding _>>=_
+  row-taken e = rw (row-look, e)
+
+-- what 19 and 11 have seen
+pub record Current (instructions : List ℕ) (entries : ℕ) (p : Position) (x : Instruction) : Type 0 where
+  pub there : rowOf p < instructionRows instructions
+  pub used : p .used ≤ entries
+  pub is : x ≡ instructionAt instructions (rowOf p)
+
+pub current : (instructions : List ℕ) (entries : ℕ) (p : Position) {x : Instruction} → currentRow instructions entries p ≡ ok x → Current instructions entries p x
+unfolding currentRow
+current instructions entries p {x} e =
+    let (f, e₁) = passed (positionFits (instructionRows instructions) entries p) _ _ _ e in
+    let (l, e₂) = passed (ltb (rowOf p) (instructionRows instructions)) _ _ _ e₁ in
+    record {
+      there = ltb-true (rowOf p) (instructionRows instructions) l;
+      used = fits-used (instructionRows instructions) entries p f;
+      is = cc;
+    }
+
+-- ---- what the functions ask for
+
+pub ready-steppable : {t : Tables} {cells : List ℕ} {journal : ℕ} → Ready t cells journal
+    → Steppable (t .regions) (t .externs) (t .parameters) (t .arguments) (t .instructions) cells journal
+unfolding I.instructionAllowed
+ready-steppable {t} r =
+    let l = loaded t (r .loads) in
+    record {
+      layout = record { few = r .few; wide = r .wide };
+      rows = few-instructions l;
+      form = λ k h.
+          let x = instructionAt (t .instructions) k in
+          both (I.formAllowed (x .family) (x .«source_form»)) _ (both (ltb (x .operator) (I.operatorsOf (x .family))) _ (instruction-allowed l k h) .1) .0;
+      call = λ k h f. record { argumentRange = call-arguments l k h f; parameterRange = extern-parameters l };
+      short = r .short;
+    }
+
+module _ {regions externs parameters arguments instructions cells : List ℕ} {journal : ℕ} {x : Instruction}
+    (p : Position) (s : Steppable regions externs parameters arguments instructions cells journal) (e : currentRow instructions (entriesOf journal) p ≡ ok x) where
+  here : Current instructions (entriesOf journal) p x
+  here = current instructions (entriesOf journal) p e
+
+  pub row-placed : Placed journal p
+  row-placed = record { done = omega (arith, s .rows, here .there); used = here .used; short = s .short }
+
+  pub row-opened : Opened regions cells x
+  row-opened = record { layout = s .layout; form = rw (here .is) (s .form (rowOf p) (here .there)) }
+
+  pub row-ranges : x .family ≡ 9 → CallRanges externs parameters arguments x
+  row-ranges f = rw (here .is) (s .call (rowOf p) (here .there) (rw (here .is) at f))
+
+-- the cells of a plain row's writes are there
+pub one-there : {regions cells : List ℕ} {w : Write} → Layout regions cells → Each (Within regions) (w ∷ []) → There cells (w .cell)
+one-there l (also h none) = in-cells l h
+
+pub two-there : {regions cells : List ℕ} {v w : Write} → Layout regions cells → Each (Within regions) (v ∷ w ∷ []) → There cells (v .cell) × There cells (w .cell)
+two-there l (also h (also k none)) = (in-cells l h, in-cells l k)
+
+-- ---- a step's end
+
+-- room for n changes and the closing entry
+pub room-words : (journal n : ℕ) (p : Position) → leb (n + 1) (entriesOf journal - p .used) ≡ true → 3 * (p .used + (n + 1)) ≤ journal
+room-words journal n p e = omega (arith, leb-true (n + 1) (entriesOf journal - p .used) e)
+
+module _ (cells journal : List ℕ) (p : Position) (ws : List Write) (n : ℕ) (e : length ws ≡ n) where
+  pub full : leb (n + 1) (entriesOf (length journal) - p .used) ≡ false → left (Refused 13 p) cells journal ≡ rowLeaves cells journal p (ok ws)
+  unfolding rowLeaves roomFor stepped _>>=_ _>>_ need
+  full h = rw (e, h)
+
+  pub roomy : {q : Position} {cells′ journal′ : List ℕ} → leb (n + 1) (entriesOf (length journal) - p .used) ≡ true
+      → q ≡ advanced p n → cells′ ≡ applied cells ws → journal′ ≡ journaled journal (p .used) cells ws
+      → left (Moved q) cells′ journal′ ≡ rowLeaves cells journal p (ok ws)
+  unfolding rowLeaves roomFor stepped _>>=_ _>>_ need
+  roomy h eq ec ej = rw (rw (← e) at h, eq, ← e, ec, ej)

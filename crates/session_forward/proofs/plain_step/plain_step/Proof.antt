@@ -1,0 +1,91 @@
+use Rattle.tables.specs.Outcome.{_>>=_, seen}
+use Rattle.machine.specs.Outcome.{rowOutcome}
+use Rattle.machine.proofs.WritesLaws.{writes-within}
+use Rattle.session.specs.Forward.{stepped}
+use Rattle.session_forward.specs.Step.{rowLeaves}
+use Rattle.session_forward.proofs.StepLaws.{one-there, two-there}
+use borrow.Author.Needs.{needs}
+use Rattle.session_forward.proofs.plain_step.plain_step.Statement.{statement}
+use Rattle.session_forward.proofs.plain_step.plain_step.Tie as tie
+
+plain-outcome-requires : tie.Need-plain-outcome-requires
+plain-outcome-requires c κs = search needs
+
+enum-known-outcome : tie.Need-enum-known-outcome
+enum-known-outcome c = search needs
+
+enum-told : tie.Need-enum-told
+enum-told c = search needs
+
+step-none-requires : tie.Need-step-none-requires
+step-none-requires c κs = search needs
+
+enum-known-outcome-2 : tie.Need-enum-known-outcome-2
+enum-known-outcome-2 c = search needs
+
+step-one-requires : tie.Need-step-one-requires
+step-one-requires c κs = (c .before .before .before .before .before .before .before .before .before .before .before .pre .1, one-there (c .before .before .before .before .before .before .before .before .before .before .before .pre .0 .layout) (writes-within (c .before .before .before .before .before .before .before .before .before .before .before .args .regions .now) (c .before .before .before .before .before .before .before .before .before .before .before .args .cells .now) (c .before .before .before .before .before .before .before .before .before .before .before .args .x) (c .before .before .before .before .before .before .before .before .before .before .before .args .reply .now) (seen rowOutcome (c .before .before .before .before .before .plain-outcome .ensures) (c .before .before .before .outcome2 .given .1))))
+
+enum-known-outcome-3 : tie.Need-enum-known-outcome-3
+enum-known-outcome-3 c = search needs
+
+step-two-requires : tie.Need-step-two-requires
+step-two-requires c κs = let h = two-there (c .before .before .before .before .before .before .before .before .before .before .before .pre .0 .layout) (writes-within (c .before .before .before .before .before .before .before .before .before .before .before .args .regions .now) (c .before .before .before .before .before .before .before .before .before .before .before .args .cells .now) (c .before .before .before .before .before .before .before .before .before .before .before .args .x) (c .before .before .before .before .before .before .before .before .before .before .before .args .reply .now) (seen rowOutcome (c .before .before .before .before .before .plain-outcome .ensures) (c .before .before .before .outcome3 .given .1))) in (c .before .before .before .before .before .before .before .before .before .before .before .pre .1, h .0, h .1)
+
+same-length : tie.Need-same-length
+same-length c = search needs
+
+returns : tie.Need-returns
+unfolding rowLeaves stepped _>>=_
+returns c = rw (seen rowOutcome (c .before .before .before .plain-outcome .ensures) (c .before .outcome .given .1))
+
+same-length-2 : tie.Need-same-length-2
+same-length-2 c = search needs
+
+same-length-3 : tie.Need-same-length-3
+same-length-3 c = search needs
+
+returns-2 : tie.Need-returns-2
+returns-2 c = rw (seen rowOutcome (c .before .before .before .before .before .before .plain-outcome .ensures) (c .before .before .before .before .enum-told .given .1)) (c .before .before .step-none .ensures (c .before .before .before .before .before .before .before .before .before .before .before .before .args .cells .now))
+
+same-length-4 : tie.Need-same-length-4
+same-length-4 c = search needs
+
+same-length-5 : tie.Need-same-length-5
+same-length-5 c = search needs
+
+returns-3 : tie.Need-returns-3
+returns-3 c = rw (seen rowOutcome (c .before .before .before .before .before .before .before .before .before .before .plain-outcome .ensures) (c .before .before .before .before .before .before .before .before .outcome2 .given .1)) (c .before .before .before .before .step-one .ensures)
+
+same-length-6 : tie.Need-same-length-6
+same-length-6 c = search needs
+
+same-length-7 : tie.Need-same-length-7
+same-length-7 c = search needs
+
+returns-4 : tie.Need-returns-4
+returns-4 c = rw (seen rowOutcome (c .before .before .before .before .before .before .before .before .before .before .plain-outcome .ensures) (c .before .before .before .before .before .before .before .before .outcome3 .given .1)) (c .before .before .before .before .step-two .ensures)
+
+pub plain-step-spec : {M : Type 1} → statement M
+plain-step-spec =
+    tie.close
+    (tie.spec
+    plain-outcome-requires
+    enum-known-outcome
+    enum-told
+    step-none-requires
+    enum-known-outcome-2
+    step-one-requires
+    enum-known-outcome-3
+    step-two-requires
+    same-length
+    returns
+    same-length-2
+    same-length-3
+    returns-2
+    same-length-4
+    same-length-5
+    returns-3
+    same-length-6
+    same-length-7
+    returns-4)

@@ -1,0 +1,63 @@
+-- How forward takes one row: the row at the position, then what the row's outcome leaves.
+use Prim.Native.Nat.{ℕ, _+_, _*_, _<_, _≤_}
+use mathlib.Core.Bool.{true}
+use mathlib.Core.List.{List}
+use mathlib.Core.Path.{_≡_}
+use lib.ListN.{length}
+use lib.Dec.{ltb}
+use Rattle.tables.specs.Refusal.{foreignPosition, atEnd}
+use Rattle.tables.specs.Outcome.{Outcome, ok, refuse, _>>=_, _>>_, need}
+use Rattle.tables.specs.Rows.{instructionRows, instructionAt}
+use Rattle.loader.specs.Instruction.{formAllowed}
+use Rattle.tables.specs.declared.rows.Instruction.{Instruction}
+use Rattle.extern_call.specs.Call.{CallRanges}
+use Rattle.extern_call.specs.declared.call.Call.{Call}
+use Rattle.journal.specs.declared.cells.Write.{Write}
+use Rattle.journal.specs.declared.position.Position.{Position}
+use Rattle.call_reply.specs.Call.{replyRows}
+use Rattle.operands.specs.Reach.{Layout}
+use Rattle.call_reply.specs.Reach.{Replied}
+use Rattle.session.specs.Prepare.{entriesOf}
+use Rattle.session.specs.Forward.{rowOf, positionFits, roomFor, Left, stepped}
+use Rattle.session_forward.specs.declared.step.NextRow.{NextRow}
+use Rattle.session_forward.specs.declared.step.NextRow.the-variants.{At, Refused}
+
+-- "19, 11": the row that a position stands at
+unfoldable pub currentRow : List ℕ → ℕ → Position → Outcome Instruction
+currentRow instructions entries p = do
+  need (positionFits (instructionRows instructions) entries p) foreignPosition
+  need (ltb (rowOf p) (instructionRows instructions)) atEnd
+  ok (instructionAt instructions (rowOf p))
+
+-- the answer `NextRow` of the code
+abbrev pub nextOutcome : NextRow → Outcome Instruction
+nextOutcome (At x) = ok x
+nextOutcome (Refused number) = refuse number
+
+-- "13" after what the row does, then what is left
+unfoldable pub rowLeaves : List ℕ → List ℕ → Position → Outcome (List Write) → Left
+rowLeaves cells journal p outcome = stepped cells journal p (outcome >>= roomFor (entriesOf (length journal)) p)
+
+-- ---- what the functions ask for, index safety alone
+
+-- a position that 19 and 11 let pass, in a journal of so many words
+pub record Placed (journal : ℕ) (p : Position) : Type 0 where
+  pub done : p .done < 512
+  pub used : p .used ≤ entriesOf journal
+  pub short : entriesOf journal ≤ 2048
+
+-- every row of loaded tables, on the cells of their regions
+pub record Steppable (regions externs parameters arguments instructions cells : List ℕ) (journal : ℕ) : Type 0 where
+  pub layout : Layout regions cells
+  pub rows : instructionRows instructions ≤ 512
+  pub form : (k : ℕ) → k < instructionRows instructions
+      → formAllowed (instructionAt instructions k .family) (instructionAt instructions k .«source_form») ≡ true
+  pub call : (k : ℕ) → k < instructionRows instructions → instructionAt instructions k .family ≡ 9
+      → CallRanges externs parameters arguments (instructionAt instructions k)
+  pub short : entriesOf journal ≤ 2048
+
+-- a reply that was judged, on the cells of the regions
+pub record Replying (regions parameters arguments : List ℕ) (call : Call) (cells reply : List ℕ) : Type 0 where
+  pub layout : Layout regions cells
+  pub row : (k : ℕ) → k < replyRows reply → Replied regions parameters arguments call reply k
+  pub few : replyRows reply ≤ 64

@@ -1,0 +1,78 @@
+// Forward on the cells: the looks from 19 on, and what the row leaves.
+ghost use mathlib.Core.Path.{_≡_};
+ghost use mathlib.Core.List.{List};
+ghost use Prim.Native.Nat.{ℕ};
+ghost use lib.ListN.{length};
+ghost use Rattle.tables.specs.Tables.{tablesOf};
+ghost use Rattle.session.specs.Prepare.{entriesOf};
+ghost use Rattle.session.specs.Forward.{rowLook, left, stepped};
+ghost use Rattle.session_forward.specs.Step.{currentRow, nextOutcome, Steppable};
+use crate::call_step::call_step;
+use crate::plain_step::plain_step;
+use journal::entries::ENTRY_WIDTH;
+use journal::position::Position;
+use session::answer::StepAnswer;
+use session::position::position_fits;
+use tables::family::CALL;
+use tables::refusal::AT_END;
+use tables::refusal::FOREIGN_POSITION;
+use tables::rows::INSTRUCTION_WIDTH;
+use tables::rows::Instruction;
+use tables::rows::instruction_at;
+
+// The row at a position, or a refusal by its number.
+pub enum NextRow {
+    At(Instruction),
+    Refused(u64),
+}
+
+pub fn next_row(instructions: &[u64], entries: usize, p: Position) -> NextRow
+    ensures { λ r. ⌜ nextOutcome r ≡ currentRow (now (instructions .entry)) entries p ⌝ }
+{
+    let row = p.done;
+    let rows = instructions.len() / INSTRUCTION_WIDTH;
+    if !position_fits(rows, entries, p) {
+        return NextRow::Refused(FOREIGN_POSITION);
+    }
+    if rows <= row {
+        return NextRow::Refused(AT_END);
+    }
+    NextRow::At(instruction_at(instructions, row))
+}
+
+// One step on the cells. The nodes play no part in it.
+pub fn step_row(
+    regions: &[u64],
+    externs: &[u64],
+    parameters: &[u64],
+    arguments: &[u64],
+    instructions: &[u64],
+    cells: &mut [u64],
+    journal: &mut [u64],
+    p: Position,
+    reply: &[u64],
+) -> StepAnswer
+    requires { ⌜ Steppable (now regions) (now externs) (now parameters) (now arguments) (now instructions) (now cells) (length (now journal)) ⌝ }
+    ensures { λ r. ⌜ ((nodes : List ℕ) → left r (now (cells .exit)) (now (journal .exit)) ≡ stepped (now (cells .entry)) (now (journal .entry)) p (rowLook (tablesOf (now (regions .entry)) (now (externs .entry)) (now (parameters .entry)) nodes (now (arguments .entry)) (now (instructions .entry))) (now (cells .entry)) (entriesOf (length (now (journal .entry)))) p (now (reply .entry)))) ⌝ }
+{
+    let next = next_row(instructions, journal.len() / ENTRY_WIDTH, p);
+    match next {
+        NextRow::Refused(number) => StepAnswer::Refused(number, p),
+        NextRow::At(x) => {
+            if x.family == CALL {
+                return call_step(
+                    regions,
+                    externs,
+                    parameters,
+                    arguments,
+                    cells,
+                    journal,
+                    p,
+                    x,
+                    reply,
+                );
+            }
+            plain_step(regions, cells, journal, p, x, reply)
+        }
+    }
+}

@@ -1,0 +1,60 @@
+-- The loops that zero the cells: the start, a write, a region, the end. Assumes nothing.
+use Prim.Native.Nat.{ℕ, _+_, _*_, _-_, _/_, _≤_, _<_}
+use mathlib.Core.List.{List}
+use mathlib.Core.Path.{_≡_, refl, sym, ap, subst, _∙_}
+use native.Mathlib.Omega.{arith}
+use native.Mathlib.Decide.{ℕ-discrete}
+use lib.ListN.{length, getD}
+use lib.Seq.{ext-getD}
+use Rattle.tables.specs.Rows.{regionRows, regionKind, regionLength, regionAt}
+use Rattle.tables.specs.Cells.{start, cellCount}
+use Rattle.tables.specs.declared.rows.Region.{Region}
+use Rattle.tables.proofs.CellsLaws.{start-next, start-within}
+use Rattle.journal.specs.Cells.{held, put}
+use Rattle.journal.specs.declared.cells.Write.{Write}
+use Rattle.journal.proofs.CellsLaws.{held-same, held-other}
+use Rattle.operands.specs.Kinds.{declaredKind, zeros}
+use Rattle.operands.proofs.KindsLaws.{kind-at, length-zeros, zeros-at}
+use Rattle.session_open.specs.Zero.{zeroCell, Zeroed, ZeroedTo}
+
+module _ (regions : List ℕ) where
+  pub zeroed-none : (cells : List ℕ) → ZeroedTo regions cells 0 0
+  unfolding start
+  zeroed-none cells = record { first = refl; zeroed = λ k h. absurd (omega arith) }
+
+  -- row r of the table
+  module _ (r : ℕ) {x : Region} (e : x ≡ regionAt regions r) where
+    pub region-next : start regions (r + 1) ≡ start regions r + x .length
+    region-next = start-next regions r ∙ ap (λ (y : Region). start regions r + y .length) (sym e)
+
+    pub region-within : r < regionRows regions → start regions r + x .length ≤ cellCount regions
+    region-within h = rw e (start-within regions r h)
+
+    -- its cell c is written
+    pub zeroed-put : (cells : List ℕ) (c : ℕ) {cells′ : List ℕ} → r < regionRows regions → start regions r ≤ c → c < start regions r + x .length
+        → 2 * c + 1 < length cells → Zeroed regions cells c → cells′ ≡ put cells (record { cell = c; kind = x .kind; word = 0 }) → Zeroed regions cells′ (c + 1)
+    zeroed-put cells c h l g b z w k d = ap (λ (m : List ℕ). held m k) w ∙ at (ℕ-discrete k c)
+      where
+        at : Dec (k ≡ c) → held (put cells (record { cell = c; kind = x .kind; word = 0 })) k ≡ zeroCell regions k
+        at (yes q) =
+            let n : x .length ≡ regionLength regions r = ap (λ (y : Region). y .length) e in
+            let s : start regions r + (c - start regions r) ≡ c = omega arith in
+            let d : declaredKind regions c ≡ regionKind regions r = rw s at (kind-at regions r (c - start regions r) h (omega arith)) in
+            rw q (held-same cells (record { cell = c; kind = x .kind; word = 0 }) b
+            ∙ ap (λ (y : ℕ). record { cell = c; kind = y; word = 0 }) (ap (λ (y : Region). y .kind) e ∙ sym d))
+        at (no ne) = held-other cells (record { cell = c; kind = x .kind; word = 0 }) k ne ∙ z k (omega arith)
+
+  -- lists of n cells that hold the same
+  cells-ext : (a b : List ℕ) (n : ℕ) → length a ≡ 2 * n → length b ≡ 2 * n → ((c : ℕ) → c < n → held a c ≡ held b c) → a ≡ b
+  cells-ext a b n la lb h = ext-getD 0 a b (la ∙ sym lb) (λ i l. at i l (ℕ-discrete i (2 * (i / 2))))
+    where
+      at : (i : ℕ) → i < length a → Dec (i ≡ 2 * (i / 2)) → getD a i 0 ≡ getD b i 0
+      at i l (yes e) = subst (λ (k : ℕ). getD a k 0 ≡ getD b k 0) (sym e) (ap (λ (w : Write). w .kind) (h (i / 2) (omega arith)))
+      at i l (no ne) = let e : i ≡ 2 * (i / 2) + 1 = omega arith in subst (λ (k : ℕ). getD a k 0 ≡ getD b k 0) (sym e) (ap (λ (w : Write). w .word) (h (i / 2) (omega arith)))
+
+  -- past the last region all cells are zero
+  pub zeroed-all : (cells : List ℕ) {c : ℕ} → length cells ≡ 2 * cellCount regions → ZeroedTo regions cells (regionRows regions) c → cells ≡ zeros regions
+  unfolding cellCount
+  zeroed-all cells l z =
+      cells-ext cells (zeros regions) (cellCount regions) l (length-zeros regions)
+      (λ c h. z .zeroed c (rw (z .first) h) ∙ sym (zeros-at regions c h))

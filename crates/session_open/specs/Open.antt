@@ -1,0 +1,104 @@
+-- 01, Order: "Open: 1, 2, 3, 10, 4, 5, 9, then 6, 7, 8 by row."
+use Prim.Native.Nat.{ℕ, _*_, _<_}
+use mathlib.Core.Bool.{Bool, true, false, not, cond}
+use mathlib.Core.List.{List, [], _++_}
+use mathlib.Core.Path.{_≡_}
+use lib.ListN.{length, drop}
+use Rattle.tables.specs.Refusal.{otherInstruction}
+use Rattle.tables.specs.Outcome.{Outcome, ok, refuse, _>>_, need}
+use Rattle.tables.specs.First.{first, every}
+use Rattle.tables.specs.Tables.{Tables, tablesOf}
+use Rattle.tables.specs.Rows.{instructionRows, instructionAt}
+use Rattle.loader.specs.Load.{loadLook}
+use Rattle.tables.specs.Cells.{cellCount}
+use Rattle.type_check.specs.Check.{checkOf}
+use Rattle.type_check.specs.declared.error.TypeError.{TypeError}
+use Rattle.type_check.specs.declared.error.Verdict.{Verdict}
+use Rattle.type_check.specs.declared.error.Verdict.the-variants as T
+use Rattle.extern_call.specs.Call.{CallRanges, resolvesCall}
+use Rattle.journal.specs.declared.position.Position.{Position}
+use Rattle.operands.specs.Kinds.{zeros}
+use Rattle.operands.specs.Reach.{Layout}
+use Rattle.machine.specs.Outcome.{isCall, isOther}
+use Rattle.session.specs.Prepare.{preparedOf}
+use Rattle.session.specs.declared.answer.OpenAnswer.{OpenAnswer}
+use Rattle.session.specs.declared.answer.OpenAnswer.the-variants.{Opened, Refused, Error}
+
+-- ---- the looks at the rows
+
+-- "9 instruction 10/1": in open, of any row
+unfoldable pub noOther : List ℕ → Bool
+noOther instructions = every (λ k. not (isOther (instructionAt instructions k))) (instructionRows instructions)
+
+-- 6, 7, 8 of row k, where it is a CALL
+unfoldable pub callLook : Tables → ℕ → Outcome (Unit {0})
+callLook t k =
+    cond (isCall (instructionAt (t .instructions) k))
+    (resolvesCall (t .regions) (t .externs) (t .parameters) (t .arguments) (instructionAt (t .instructions) k) >> ok tt) (ok tt)
+
+abbrev pub isRefused : {A : Type 0} → Outcome A → Bool
+isRefused (ok a) = false
+isRefused (refuse n) = true
+
+-- of the n rows from a row on
+abbrev pub callsFrom : Tables → ℕ → ℕ → Outcome (Unit {0})
+callsFrom t row n = first (λ k. isRefused (callLook t k)) (callLook t) (ok tt) row n
+
+-- "6, 7, 8 by row"
+unfoldable pub callsLook : Tables → Outcome (Unit {0})
+callsLook t = callsFrom t 0 (instructionRows (t .instructions))
+
+-- "9, then 6, 7, 8 by row"
+unfoldable pub programLook : Tables → Outcome (Unit {0})
+programLook t = need (noOther (t .instructions)) otherInstruction >> callsLook t
+
+-- What the functions over a program's CALLs ask for, index safety alone; and their tables, as a CALL looks at no node.
+pub record CallsInside (externs parameters arguments instructions : List ℕ) : Type 0 where
+  pub row : (k : ℕ) → k < instructionRows instructions → instructionAt instructions k .family ≡ 9
+      → CallRanges externs parameters arguments (instructionAt instructions k)
+
+abbrev pub callTables : List ℕ → List ℕ → List ℕ → List ℕ → List ℕ → Tables
+callTables regions externs parameters arguments instructions = tablesOf regions externs parameters [] arguments instructions
+
+-- ---- what open leaves
+
+-- "gives position 0, 0"
+abbrev pub start : Position
+start = record { done = 0; used = 0 }
+
+pub record Opening : Type 0 where
+  pub answer : OpenAnswer
+  pub memory : List ℕ
+
+abbrev pub opening : OpenAnswer → List ℕ → Opening
+opening answer memory = record { answer = answer; memory = memory }
+
+-- "A refusal .. writes nothing"
+abbrev pub unlessRefused : {A : Type 0} → List ℕ → Outcome A → Opening → Opening
+unlessRefused memory (ok a) rest = rest
+unlessRefused memory (refuse number) rest = opening (Refused number) memory
+
+-- 5, with the type error
+abbrev pub unlessError : List ℕ → Verdict → Opening → Opening
+unlessError memory T.Accepted rest = rest
+unlessError memory (T.Error e) rest = opening (Error e) memory
+
+-- on the cells alone, from 5 on
+unfoldable pub openCells : Tables → List ℕ → Opening
+openCells t cells =
+    unlessError cells (checkOf (t .regions) (t .nodes) (t .instructions))
+    (unlessRefused cells (programLook t)
+    (opening (Opened start) (zeros (t .regions))))
+
+-- What the function behind it asks for: the tables are loaded, and the cells are those of their regions.
+pub record Openable (t : Tables) (cells : List ℕ) : Type 0 where
+  pub loads : loadLook t ≡ ok tt
+  pub layout : Layout (t .regions) cells
+
+-- "Open zeroes each cell with its declared kind, leaves memory past the cells and the journal, and gives position 0, 0." Of the journal it takes the length alone.
+unfoldable pub openTables : Tables → List ℕ → ℕ → Opening
+openTables t memory journal =
+    unlessRefused memory (preparedOf t (length memory) journal)
+    (unlessError memory (checkOf (t .regions) (t .nodes) (t .instructions))
+    (unlessRefused memory (programLook t)
+    (opening (Opened start) (zeros (t .regions) ++ drop (2 * cellCount (t .regions)) memory))))

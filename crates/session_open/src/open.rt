@@ -1,0 +1,35 @@
+// Open on the cells alone: the program is judged whole before a cell is written.
+ghost use mathlib.Core.Path.{_≡_};
+ghost use Rattle.tables.specs.Tables.{tablesOf};
+ghost use Rattle.session_open.specs.Open.{opening, openCells, Openable};
+use crate::program::program_look;
+use crate::zero::zero_cells;
+use journal::position::Position;
+use session::answer::OpenAnswer;
+use tables::look::Look;
+use type_check::error::Verdict;
+use type_check::program::check_program;
+
+pub fn open_cells(
+    regions: &[u64],
+    externs: &[u64],
+    parameters: &[u64],
+    nodes: &[u64],
+    arguments: &[u64],
+    instructions: &[u64],
+    cells: &mut [u64],
+) -> OpenAnswer
+    requires { ⌜ Openable (tablesOf (now regions) (now externs) (now parameters) (now nodes) (now arguments) (now instructions)) (now cells) ⌝ }
+    ensures { λ r. ⌜ opening r (now (cells .exit)) ≡ openCells (tablesOf (now (regions .entry)) (now (externs .entry)) (now (parameters .entry)) (now (nodes .entry)) (now (arguments .entry)) (now (instructions .entry))) (now (cells .entry)) ⌝ }
+{
+    let verdict = check_program(regions, nodes, instructions);
+    if let Verdict::Error(error) = verdict {
+        return OpenAnswer::Error(error);
+    }
+    let look = program_look(regions, externs, parameters, arguments, instructions);
+    if let Look::Refused(number) = look {
+        return OpenAnswer::Refused(number);
+    }
+    zero_cells(regions, cells);
+    OpenAnswer::Opened(Position { done: 0, used: 0 })
+}

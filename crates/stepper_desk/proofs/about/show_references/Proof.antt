@@ -1,0 +1,53 @@
+-- `desk::about::show_references` is safe and ends. Assumes nothing.
+use borrow.Author.Needs.{needs}
+use Rattle.stepper_desk.proofs.about.show_references.Statement.{statement}
+use Rattle.stepper_desk.proofs.about.show_references.Tie as tie
+
+abbrev Inv-loop : tie.InvT-loop
+Inv-loop source names view nodes x place₀ turns₀ place turns = Unit {0}
+
+abbrev μ-loop : tie.MeasureT-loop
+μ-loop source names view nodes x place₀ turns₀ place turns = turns
+
+slice-aggregate-text : tie.Need-slice-aggregate-text Inv-loop μ-loop
+slice-aggregate-text c = search needs
+
+text-requires : tie.Need-text-requires Inv-loop μ-loop
+text-requires c κs = search needs
+
+loop-holds : tie.Need-loop-holds Inv-loop μ-loop
+loop-holds c = search needs
+
+walk-on-requires : tie.Need-walk-on-requires Inv-loop μ-loop
+walk-on-requires c κs = search needs
+
+sub-turns : tie.Need-sub-turns Inv-loop μ-loop
+sub-turns c = search needs
+
+loop-less : tie.Need-loop-less Inv-loop μ-loop
+loop-less c = search needs
+
+loop-again : tie.Need-loop-again Inv-loop μ-loop
+loop-again c = search needs
+
+byte-requires : tie.Need-byte-requires Inv-loop μ-loop
+byte-requires c κs = search needs
+
+returns : tie.Need-returns Inv-loop μ-loop
+returns c = search needs
+
+pub show-references-spec : {M : Type 1} → statement M
+show-references-spec =
+    tie.close
+    (tie.spec
+    Inv-loop
+    μ-loop
+    slice-aggregate-text
+    text-requires
+    loop-holds
+    walk-on-requires
+    sub-turns
+    loop-less
+    loop-again
+    byte-requires
+    returns)

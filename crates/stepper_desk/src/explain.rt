@@ -1,0 +1,149 @@
+// A CALL in words: its resolved arguments, or why it does not resolve.
+use crate::state::Desk;
+use extern_call::rows::ResolveAnswer;
+use stepper_calls::resolve_row;
+use stepper_calls::table;
+use stepper_screen::errors::show_errors;
+use stepper_screen::print::byte;
+use stepper_screen::print::text;
+use stepper_screen::program::row_line;
+use stepper_screen::refusal::refused;
+use stepper_screen::resolved::show_resolved;
+use stepper_tables::file::TABLE_WORDS;
+use stepper_tables::names::NAME_WORDS;
+use tables::family::CALL;
+use tables::rows::INSTRUCTION_WIDTH;
+use tables::rows::instruction_at;
+
+// Seven words for each argument that a CALL can have.
+pub const RESOLVE_WORDS: usize = 1806;
+
+// No family.
+pub const NO_ROW: u64 = 100;
+
+pub fn family_at(instructions: &[u64], row: usize) -> u64 {
+    if row < instructions.len() / INSTRUCTION_WIDTH {
+        let x = instruction_at(instructions, row);
+        return x.family;
+    }
+    NO_ROW
+}
+
+// The row as on the screen.
+pub fn this_row(
+    source: &[u8],
+    names: &[u64; NAME_WORDS],
+    tables: &[u64; TABLE_WORDS],
+    desk: Desk,
+    row: usize,
+) {
+    let lengths = desk.lengths;
+    row_line(
+        source,
+        names,
+        desk.view,
+        table(tables, 3, lengths),
+        table(tables, 4, lengths),
+        table(tables, 5, lengths),
+        row,
+    );
+    byte(b'\n');
+}
+
+// Resolves a row that is a CALL, into `rows`, and shows what came; how many arguments are resolved.
+pub fn show_call(
+    source: &[u8],
+    names: &[u64; NAME_WORDS],
+    tables: &[u64; TABLE_WORDS],
+    desk: Desk,
+    row: usize,
+    rows: &mut [u64; RESOLVE_WORDS],
+) -> usize {
+    let lengths = desk.lengths;
+    let view = desk.view;
+    this_row(source, names, tables, desk, row);
+    let answer = resolve_row(tables, lengths, row, rows);
+    match answer {
+        ResolveAnswer::Resolved(count) => {
+            show_resolved(source, names, view, rows, count);
+            count
+        }
+        ResolveAnswer::Errors(count) => {
+            show_errors(source, names, view, rows, count);
+            0
+        }
+        ResolveAnswer::Refused(number) => {
+            refused(number, view);
+            0
+        }
+    }
+}
+
+fn is_resolved(answer: ResolveAnswer) -> bool {
+    match answer {
+        ResolveAnswer::Resolved(_) => true,
+        ResolveAnswer::Errors(_) => false,
+        ResolveAnswer::Refused(_) => false,
+    }
+}
+
+fn resolves(tables: &[u64; TABLE_WORDS], lengths: [usize; 6], row: usize) -> bool {
+    let mut rows = [0; RESOLVE_WORDS];
+    is_resolved(resolve_row(tables, lengths, row, &mut rows))
+}
+
+// Whether the row is a CALL that does not resolve.
+fn is_bad_call(tables: &[u64; TABLE_WORDS], lengths: [usize; 6], row: usize) -> bool {
+    let instructions = table(tables, 5, lengths);
+    if family_at(instructions, row) != CALL {
+        return false;
+    }
+    !resolves(tables, lengths, row)
+}
+
+// The first CALL that does not resolve, or the number of rows.
+fn first_bad_call(tables: &[u64; TABLE_WORDS], lengths: [usize; 6], rows: usize) -> usize {
+    let mut row = 0;
+    while row < rows {
+        if is_bad_call(tables, lengths, row) {
+            return row;
+        }
+        row += 1;
+    }
+    rows
+}
+
+// The first CALL that does not resolve, with its argument errors or without.
+fn explain_call(
+    source: &[u8],
+    names: &[u64; NAME_WORDS],
+    tables: &[u64; TABLE_WORDS],
+    desk: Desk,
+    with_errors: bool,
+) {
+    let lengths = desk.lengths;
+    let instructions = table(tables, 5, lengths);
+    let row = first_bad_call(tables, lengths, instructions.len() / INSTRUCTION_WIDTH);
+    if with_errors {
+        let mut rows = [0; RESOLVE_WORDS];
+        show_call(source, names, tables, desk, row, &mut rows);
+    } else {
+        this_row(source, names, tables, desk, row);
+    }
+}
+
+// Where open refused with 6, 7 or 8.
+pub fn explain_open(
+    source: &[u8],
+    names: &[u64; NAME_WORDS],
+    tables: &[u64; TABLE_WORDS],
+    desk: Desk,
+    refusal: u64,
+) {
+    match refusal {
+        6 => explain_call(source, names, tables, desk, false),
+        7 => explain_call(source, names, tables, desk, false),
+        8 => explain_call(source, names, tables, desk, true),
+        _ => {}
+    }
+}

@@ -1,0 +1,276 @@
+// The keys, one a line.
+use crate::load::load;
+use crate::steps::back_key;
+use crate::steps::check_key;
+use crate::steps::forward_key;
+use crate::steps::no_file;
+use crate::steps::reset;
+use crate::steps::tell_changes;
+use script::line::byte_at;
+use script::line::part;
+use script::line::word_at;
+use stepper_desk::about::about;
+use stepper_desk::input::LINE;
+use stepper_desk::input::ask;
+use stepper_desk::input::typed_line;
+use stepper_desk::screen::screen;
+use stepper_desk::state::Desk;
+use stepper_desk::state::JOURNAL_WORDS;
+use stepper_desk::state::MEMORY_WORDS;
+use stepper_desk::state::NO_FILE;
+use stepper_desk::state::TEXT_BYTES;
+use stepper_screen::changes::copy;
+use stepper_screen::page::page;
+use stepper_screen::print::text;
+use stepper_tables::file::TABLE_WORDS;
+use stepper_tables::names::NAME_WORDS;
+
+pub fn help() {
+    text(
+        b"Keys, one a line:\n  \
+        (empty)  forward: the next row; at a CALL the reply is asked for\n  \
+        b        back: takes the last step back\n  \
+        r        reset: opens the program again\n  \
+        a        about the current row: a CALL's arguments and access sets, a frame's references\n  \
+        c        type check of the whole program\n  \
+        x        REAL words as bits, on and off\n  \
+        m        more: all rows and all cells, on and off\n  \
+        o FILE   opens another file\n  \
+        p        the page of refusals: what is turned down, why, and who can mend it\n  \
+        h        this help\n  \
+        q        quit\n\
+        A reply's row is: argument, offset, value. An empty line ends the reply.\n",
+    );
+}
+
+// The screen of the desk's file.
+pub fn show(
+    buffer: &[u8; TEXT_BYTES],
+    names: &[u64; NAME_WORDS],
+    tables: &[u64; TABLE_WORDS],
+    memory: &[u64; MEMORY_WORDS],
+    desk: Desk,
+) {
+    if desk.state != NO_FILE {
+        screen(part(buffer, 0, desk.text), names, tables, memory, desk);
+    }
+}
+
+// Reads a file and opens its program.
+pub fn open_file(
+    path: &[u8],
+    buffer: &mut [u8; TEXT_BYTES],
+    names: &mut [u64; NAME_WORDS],
+    tables: &mut [u64; TABLE_WORDS],
+    memory: &mut [u64; MEMORY_WORDS],
+    journal: &mut [u64; JOURNAL_WORDS],
+    desk: Desk,
+) -> Desk {
+    let loaded = load(path, buffer, names, tables, desk);
+    if loaded.state == NO_FILE {
+        return loaded;
+    }
+    reset(
+        part(buffer, 0, loaded.text),
+        names,
+        tables,
+        loaded,
+        memory,
+        journal,
+    )
+}
+
+// Keys that tell something of the file.
+fn file_key(
+    key: u8,
+    source: &[u8],
+    names: &[u64; NAME_WORDS],
+    tables: &[u64; TABLE_WORDS],
+    desk: Desk,
+) {
+    if desk.state == NO_FILE {
+        no_file();
+        return;
+    }
+    match key {
+        b'a' => about(source, names, tables, desk),
+        _ => check_key(tables, desk),
+    }
+}
+
+// Keys that only show something.
+fn showing_key(
+    key: u8,
+    source: &[u8],
+    names: &[u64; NAME_WORDS],
+    tables: &[u64; TABLE_WORDS],
+    desk: Desk,
+) -> Desk {
+    match key {
+        b'a' => file_key(key, source, names, tables, desk),
+        b'c' => file_key(key, source, names, tables, desk),
+        b'p' => page(),
+        b'h' => help(),
+        _ => text(b"no such key: h shows the keys\n"),
+    }
+    desk
+}
+
+// Keys that change how things are shown, or end.
+fn view_key(
+    key: u8,
+    source: &[u8],
+    names: &[u64; NAME_WORDS],
+    tables: &[u64; TABLE_WORDS],
+    desk: Desk,
+) -> Desk {
+    let view = desk.view;
+    match key {
+        b'x' => desk.viewed(view.with_bits()),
+        b'm' => desk.viewed(view.with_all()),
+        b'q' => desk.stopped(),
+        _ => showing_key(key, source, names, tables, desk),
+    }
+}
+
+// Keys that step; 0 is the empty line.
+fn step_key(
+    key: u8,
+    source: &[u8],
+    names: &mut [u64; NAME_WORDS],
+    tables: &[u64; TABLE_WORDS],
+    memory: &mut [u64; MEMORY_WORDS],
+    journal: &mut [u64; JOURNAL_WORDS],
+    desk: Desk,
+) -> Desk {
+    match key {
+        0 => forward_key(source, names, tables, desk, memory, journal),
+        b'b' => back_key(tables, desk, memory, journal),
+        _ => reset(source, names, tables, desk, memory, journal),
+    }
+}
+
+fn steps(key: u8) -> bool {
+    (key == 0) | ((key == b'b') | (key == b'r'))
+}
+
+// A key that stands alone on its line, and what it changed.
+fn press(
+    key: u8,
+    source: &[u8],
+    names: &mut [u64; NAME_WORDS],
+    tables: &[u64; TABLE_WORDS],
+    memory: &mut [u64; MEMORY_WORDS],
+    journal: &mut [u64; JOURNAL_WORDS],
+    desk: Desk,
+) -> Desk {
+    if !steps(key) {
+        return view_key(key, source, names, tables, desk);
+    }
+    let mut before = [0; MEMORY_WORDS];
+    copy(memory, &mut before);
+    let next = step_key(key, source, names, tables, memory, journal, desk);
+    tell_changes(source, names, tables, &before, memory, desk, next);
+    next
+}
+
+// Whether the screen is shown after a key.
+fn shows(key: u8) -> bool {
+    match key {
+        0 => true,
+        b'b' => true,
+        b'r' => true,
+        b'x' => true,
+        b'm' => true,
+        b'o' => true,
+        _ => false,
+    }
+}
+
+// The line's first byte where its first word is one byte, 0 where there is no word, else a byte that is no key.
+fn key_of(line: &[u8]) -> u8 {
+    let word = word_at(line, 0, line.len());
+    if word.start >= word.end {
+        return 0;
+    }
+    if word.end == std::num::wrapping_add_usize(word.start, 1) {
+        return byte_at(line, word.start);
+    }
+    b'?'
+}
+
+fn act(
+    line: &[u8],
+    buffer: &mut [u8; TEXT_BYTES],
+    names: &mut [u64; NAME_WORDS],
+    tables: &mut [u64; TABLE_WORDS],
+    memory: &mut [u64; MEMORY_WORDS],
+    journal: &mut [u64; JOURNAL_WORDS],
+    desk: Desk,
+) -> Desk {
+    let key = key_of(line);
+    if key == b'o' {
+        let first = word_at(line, 0, line.len());
+        let path = word_at(line, first.end, line.len());
+        return open_file(
+            part(line, path.start, path.end),
+            buffer,
+            names,
+            tables,
+            memory,
+            journal,
+            desk,
+        );
+    }
+    press(
+        key,
+        part(buffer, 0, desk.text),
+        names,
+        tables,
+        memory,
+        journal,
+        desk,
+    )
+}
+
+// Asks for a key and acts on it. The end of the input quits.
+fn turn(
+    buffer: &mut [u8; TEXT_BYTES],
+    names: &mut [u64; NAME_WORDS],
+    tables: &mut [u64; TABLE_WORDS],
+    memory: &mut [u64; MEMORY_WORDS],
+    journal: &mut [u64; JOURNAL_WORDS],
+    desk: Desk,
+) -> Desk {
+    let mut line = [0; LINE];
+    let typed = ask(b"key: ", &mut line, desk.view);
+    if typed.ended {
+        return desk.stopped();
+    }
+    let keys = typed_line(&line, typed);
+    let next = act(keys, buffer, names, tables, memory, journal, desk);
+    if shows(key_of(keys)) {
+        show(buffer, names, tables, memory, next);
+    }
+    next
+}
+
+// Nothing says that the keys end, so the loop counts its turns down, from a number that no session uses up.
+pub fn turns(
+    buffer: &mut [u8; TEXT_BYTES],
+    names: &mut [u64; NAME_WORDS],
+    tables: &mut [u64; TABLE_WORDS],
+    memory: &mut [u64; MEMORY_WORDS],
+    journal: &mut [u64; JOURNAL_WORDS],
+    desk: Desk,
+) {
+    let mut now = desk;
+    let mut left: u64 = 0xFFFF_FFFF_FFFF_FFFF;
+    while left > 0 {
+        if !now.going {
+            break;
+        }
+        now = turn(buffer, names, tables, memory, journal, now);
+        left -= 1;
+    }
+}

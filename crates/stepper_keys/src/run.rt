@@ -1,0 +1,97 @@
+// The program: `FILE` steps it, `check FILE` tells its verdict, `refusals` the page of refusals.
+use crate::keys::help;
+use crate::keys::open_file;
+use crate::keys::show;
+use crate::keys::turns;
+use libc::STDIN_FILENO;
+use libc::STDOUT_FILENO;
+use script::line::same;
+use stepper_desk::state::Desk;
+use stepper_desk::state::JOURNAL_WORDS;
+use stepper_desk::state::MEMORY_WORDS;
+use stepper_desk::state::NO_FILE;
+use stepper_desk::state::OPENED;
+use stepper_desk::state::TEXT_BYTES;
+use stepper_desk::state::new_desk;
+use stepper_screen::page::page;
+use stepper_screen::print::number;
+use stepper_screen::print::text;
+use stepper_tables::file::TABLE_WORDS;
+use stepper_tables::names::NAME_WORDS;
+
+// The last line tells the verdict to the script that started the program.
+fn verdict(state: u64) {
+    match state {
+        OPENED => text(b"accepted\n"),
+        NO_FILE => text(b"not read\n"),
+        _ => {
+            text(b"turned down ");
+            number(state);
+            text(b"\n")
+        }
+    }
+}
+
+fn start(path: &[u8], only_check: bool, desk: Desk) {
+    let mut buffer = [0; TEXT_BYTES];
+    let mut names = [0; NAME_WORDS];
+    let mut tables = [0; TABLE_WORDS];
+    let mut memory = [0; MEMORY_WORDS];
+    let mut journal = [0; JOURNAL_WORDS];
+    let opened = open_file(
+        path,
+        &mut buffer,
+        &mut names,
+        &mut tables,
+        &mut memory,
+        &mut journal,
+        desk,
+    );
+    if only_check {
+        verdict(opened.state);
+        return;
+    }
+    if opened.state == NO_FILE {
+        return;
+    }
+    show(&buffer, &names, &tables, &memory, opened);
+    text(b"h shows the keys\n");
+    turns(
+        &mut buffer,
+        &mut names,
+        &mut tables,
+        &mut memory,
+        &mut journal,
+        opened,
+    );
+}
+
+// The second argument, for `check FILE`.
+fn check_file(desk: Desk) {
+    let mut path = io::buffer();
+    let length = os::arg(2, &mut path);
+    start(&path[..length], true, desk);
+}
+
+pub fn run() {
+    let desk = new_desk(
+        libc::isatty(STDOUT_FILENO) == 1,
+        libc::isatty(STDIN_FILENO) != 1,
+    );
+    let mut word = io::buffer();
+    let length = os::arg(1, &mut word);
+    let first = &word[..length];
+    if same(first, b"refusals") {
+        page();
+        return;
+    }
+    if same(first, b"check") {
+        check_file(desk);
+        return;
+    }
+    if length == 0 {
+        help();
+        return;
+    }
+    start(first, false, desk);
+}

@@ -1,0 +1,261 @@
+// What the keys do to the session: a file read, open, forward, back.
+use console::check::CheckAnswer;
+use journal::position::Position;
+use script::line::least;
+use session::answer::OpenAnswer;
+use session::answer::StepAnswer;
+use stepper_calls::check_tables;
+use stepper_calls::front;
+use stepper_calls::open_tables;
+use stepper_calls::step_back;
+use stepper_calls::step_forward;
+use stepper_calls::table;
+use stepper_desk::explain::RESOLVE_WORDS;
+use stepper_desk::explain::explain_open;
+use stepper_desk::explain::family_at;
+use stepper_desk::explain::show_call;
+use stepper_desk::explain::this_row;
+use stepper_desk::reply::NO_REPLY;
+use stepper_desk::reply::REPLY_WORDS;
+use stepper_desk::reply::ask_reply;
+use stepper_desk::state::Desk;
+use stepper_desk::state::JOURNAL_WORDS;
+use stepper_desk::state::MEMORY_WORDS;
+use stepper_desk::state::NO_FILE;
+use stepper_desk::state::OPENED;
+use stepper_screen::changes::changes;
+use stepper_screen::errors::type_error;
+use stepper_screen::print::style;
+use stepper_screen::print::text;
+use stepper_screen::refusal::refused;
+use stepper_screen::view::View;
+use stepper_tables::file::TABLE_WORDS;
+use stepper_tables::names::NAME_WORDS;
+use stepper_tables::plant::plant;
+use tables::family::CALL;
+use tables::refusal::TYPE_ERROR;
+
+// What open answered, in words; the state that it leaves.
+fn opened(
+    source: &[u8],
+    names: &[u64; NAME_WORDS],
+    tables: &[u64; TABLE_WORDS],
+    desk: Desk,
+    answer: OpenAnswer,
+) -> u64 {
+    match answer {
+        OpenAnswer::Opened(_) => OPENED,
+        OpenAnswer::Refused(number) => {
+            refused(number, desk.view);
+            explain_open(source, names, tables, desk, number);
+            number
+        }
+        OpenAnswer::Error(error) => {
+            refused(TYPE_ERROR, desk.view);
+            this_row(source, names, tables, desk, error.row as usize);
+            type_error(error);
+            TYPE_ERROR
+        }
+    }
+}
+
+fn open_lent(
+    source: &[u8],
+    names: &[u64; NAME_WORDS],
+    tables: &[u64; TABLE_WORDS],
+    desk: Desk,
+    memory: &mut [u64],
+    journal: &[u64],
+) -> Desk {
+    let words = least(desk.memory, memory.len());
+    let entries = least(desk.journal, journal.len());
+    let lengths = desk.lengths;
+    let answer = open_tables(tables, lengths, &mut memory[0..words], &journal[0..entries]);
+    let state = opened(source, names, tables, desk, answer);
+    let first = Position { done: 0, used: 0 };
+    desk.stated(state).placed(first)
+}
+
+// What the file has of a foreign writer.
+fn plant_lent(
+    source: &[u8],
+    names: &mut [u64; NAME_WORDS],
+    desk: Desk,
+    memory: &mut [u64],
+    journal: &mut [u64],
+) -> Desk {
+    let words = least(desk.memory, memory.len());
+    let entries = least(desk.journal, journal.len());
+    let view = desk.view;
+    let position = plant(
+        source,
+        names,
+        view.names,
+        &mut memory[0..words],
+        &mut journal[0..entries],
+        desk.position,
+    );
+    desk.placed(position)
+}
+
+pub fn no_file() {
+    text(b"no file is open: o FILE opens one\n");
+}
+
+// Opens the program that was read.
+pub fn reset(
+    source: &[u8],
+    names: &mut [u64; NAME_WORDS],
+    tables: &[u64; TABLE_WORDS],
+    desk: Desk,
+    memory: &mut [u64; MEMORY_WORDS],
+    journal: &mut [u64; JOURNAL_WORDS],
+) -> Desk {
+    if desk.state == NO_FILE {
+        no_file();
+        return desk;
+    }
+    let next = open_lent(source, names, tables, desk, memory, journal);
+    if next.state != OPENED {
+        return next;
+    }
+    plant_lent(source, names, next, memory, journal)
+}
+
+// The position that a step leaves, and its refusal in words.
+fn stepped(answer: StepAnswer, view: View) -> Position {
+    match answer {
+        StepAnswer::Moved(position) => position,
+        StepAnswer::Refused(number, position) => {
+            refused(number, view);
+            position
+        }
+    }
+}
+
+// What a key changed, in words.
+pub fn tell_changes(
+    source: &[u8],
+    names: &[u64; NAME_WORDS],
+    tables: &[u64],
+    before: &[u64],
+    memory: &[u64],
+    old: Desk,
+    new: Desk,
+) {
+    let first = old.position;
+    let last = new.position;
+    let lengths = new.lengths;
+    let regions = table(tables, 0, lengths);
+    let any = changes(
+        source,
+        names,
+        new.view,
+        regions,
+        before,
+        front(memory, new.memory),
+    );
+    if !any & (first.done != last.done) {
+        text(b"no cell changed\n");
+    }
+}
+
+// Keys that step need an opened program.
+fn is_open(desk: Desk) -> bool {
+    if desk.state == OPENED {
+        return true;
+    }
+    if desk.state == NO_FILE {
+        no_file();
+        return false;
+    }
+    let view = desk.view;
+    style(view, b"31");
+    text(b"the program is turned down, so there is no step: o FILE opens another\n");
+    style(view, b"0");
+    false
+}
+
+// The reply where the current row is a CALL; its length in words.
+fn reply_for(
+    source: &[u8],
+    names: &[u64; NAME_WORDS],
+    tables: &[u64; TABLE_WORDS],
+    desk: Desk,
+    reply: &mut [u64; REPLY_WORDS],
+) -> usize {
+    let lengths = desk.lengths;
+    let position = desk.position;
+    if family_at(table(tables, 5, lengths), position.done) != CALL {
+        return 0;
+    }
+    let mut rows = [0; RESOLVE_WORDS];
+    let count = show_call(source, names, tables, desk, position.done, &mut rows);
+    ask_reply(&rows, count, reply, desk.view)
+}
+
+fn reply_words(reply: &[u64; REPLY_WORDS], length: usize) -> &[u64] {
+    front(reply, length)
+}
+
+pub fn forward_key(
+    source: &[u8],
+    names: &[u64; NAME_WORDS],
+    tables: &[u64; TABLE_WORDS],
+    desk: Desk,
+    memory: &mut [u64],
+    journal: &mut [u64],
+) -> Desk {
+    let words = least(desk.memory, memory.len());
+    let entries = least(desk.journal, journal.len());
+    if !is_open(desk) {
+        return desk;
+    }
+    let lengths = desk.lengths;
+    let mut reply = [0; REPLY_WORDS];
+    let length = reply_for(source, names, tables, desk, &mut reply);
+    if length == NO_REPLY {
+        text(b"no reply, so no step\n");
+        return desk;
+    }
+    let answer = step_forward(
+        tables,
+        lengths,
+        &mut memory[0..words],
+        &mut journal[0..entries],
+        desk.position,
+        reply_words(&reply, length),
+    );
+    desk.placed(stepped(answer, desk.view))
+}
+
+pub fn back_key(tables: &[u64], desk: Desk, memory: &mut [u64], journal: &[u64]) -> Desk {
+    let words = least(desk.memory, memory.len());
+    let entries = least(desk.journal, journal.len());
+    if !is_open(desk) {
+        return desk;
+    }
+    let lengths = desk.lengths;
+    let answer = step_back(
+        tables,
+        lengths,
+        &mut memory[0..words],
+        &journal[0..entries],
+        desk.position,
+    );
+    desk.placed(stepped(answer, desk.view))
+}
+
+// The verdict of the type check, in words.
+pub fn check_key(tables: &[u64], desk: Desk) {
+    let lengths = desk.lengths;
+    let answer = check_tables(tables, lengths);
+    match answer {
+        CheckAnswer::Accepted => text(b"accepted by the type check\n"),
+        CheckAnswer::Refused(number) => refused(number, desk.view),
+        CheckAnswer::Error(error) => {
+            refused(TYPE_ERROR, desk.view);
+            type_error(error)
+        }
+    }
+}
