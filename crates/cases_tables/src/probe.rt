@@ -39,7 +39,7 @@ pub fn value_at(column: u64) -> u64 {
 }
 
 pub fn number_of(look: Look) -> u64 {
-    match load {
+    match look {
         Look::Accepted => 0,
         Look::Refused(number) => number,
     }
