@@ -1,7 +1,7 @@
 #!/usr/bin/env python3
 """Writes the script that session_cases plays, `stdin`, and what it must write, `stdout`, beside itself.
 
-The answers come from `rules/`, written from document 01 and the settled readings of it, without a look at the proved
+The answers come from `rules/`, written from document 01 and docs/DECISIONS.md, without a look at the proved
 definitions or at the code of their rules. Seen of the code: the types of the answers, the position and the type error,
 the first lines of the looks that the three calls share, and part of `call_cases`.
 The cases are in `cases/`. No input; the same output at each run.
