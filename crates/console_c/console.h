@@ -23,6 +23,9 @@ extern "C" {
         size_t nodes_length, const uint64_t *arguments, size_t arguments_length,                    \
         const uint64_t *instructions, size_t instructions_length
 
+/* A position's words: steps done, entries used. */
+#define CONSOLE_POSITION 2
+
 /* The type check: 1, 2, 3, 5. error on 5: kind, row, spot, src spot, two codes. */
 uint64_t console_check(CONSOLE_TABLES, uint64_t error[6]);
 
@@ -45,25 +48,25 @@ uint64_t console_reference(const uint64_t *nodes, size_t nodes_length, uint64_t 
 
 /* Zeroes the cells of all regions, each with its declared kind: 1, 2, 3, 10, 4, 5, 9, then 6, 7, 8
  * by row. memory takes two words a cell, kind and word; words past the cells stay. journal takes
- * three words an entry, at most 2,048 entries; none is read or written. position on 0: steps done,
- * entries used, both 0. error on 5, as console_check. A refusal leaves memory as it was. */
+ * three words an entry, at most 2,048 entries; none is read or written. position on 0: both words 0. error on 5, as console_check. A refusal leaves memory as it was. */
 uint64_t console_open(CONSOLE_TABLES, uint64_t *memory, size_t memory_length,
-                      const uint64_t *journal, size_t journal_length, uint64_t position[2],
-                      uint64_t error[6]);
+                      const uint64_t *journal, size_t journal_length,
+                      uint64_t position[CONSOLE_POSITION], uint64_t error[6]);
 
 /* One step forward, the row at position: 1, 2, 3, 10, 4, 19, 11, 9, then for a CALL 6, 7, 8, 14,
  * 17, 13, else 17, 18, 14, 18, 14, 18, 15, 16, 13. memory takes 2 words a cell, a journal entry 3
- * words. position is steps done, entries used; on 0 the new one. reply is at most 64 rows of 4
+ * words. position on 0 is the new one. reply is at most 64 rows of 4
  * words where the row is a CALL, else empty: argument, offset, kind, word. On any other answer
  * memory and journal keep what they held. */
 uint64_t console_forward(CONSOLE_TABLES, uint64_t *memory, size_t memory_length, uint64_t *journal,
-                         size_t journal_length, uint64_t position[2], const uint64_t *reply,
-                         size_t reply_length);
+                         size_t journal_length, uint64_t position[CONSOLE_POSITION],
+                         const uint64_t *reply, size_t reply_length);
 
 /* The last step taken back from the journal: 1, 2, 3, 10, 4, 19, 12, 19. position on 0 is the one
  * before that step. On any other answer memory keeps what it held. */
 uint64_t console_back(CONSOLE_TABLES, uint64_t *memory, size_t memory_length,
-                      const uint64_t *journal, size_t journal_length, uint64_t position[2]);
+                      const uint64_t *journal, size_t journal_length,
+                      uint64_t position[CONSOLE_POSITION]);
 
 #ifdef __cplusplus
 }
