@@ -48,16 +48,17 @@ uint64_t console_reference(const uint64_t *nodes, size_t nodes_length, uint64_t 
 
 /* Zeroes the cells of all regions, each with its declared kind: 1, 2, 3, 10, 4, 5, 9, then 6, 7, 8
  * by row. memory takes two words a cell, kind and word; words past the cells stay. journal takes
- * three words an entry, at most 2,048 entries; none is read or written. position on 0: both words 0. error on 5, as console_check. A refusal leaves memory as it was. */
+ * three words an entry, at most 2,048 entries; none is read or written. position on 0: both words
+ * 0. error on 5, as console_check. A refusal leaves memory as it was. */
 uint64_t console_open(CONSOLE_TABLES, uint64_t *memory, size_t memory_length,
                       const uint64_t *journal, size_t journal_length,
                       uint64_t position[CONSOLE_POSITION], uint64_t error[6]);
 
 /* One step forward, the row at position: 1, 2, 3, 10, 4, 19, 11, 9, then for a CALL 6, 7, 8, 14,
  * 17, 13, else 17, 18, 14, 18, 14, 18, 15, 16, 13. memory takes 2 words a cell, a journal entry 3
- * words. position on 0 is the new one. reply is at most 64 rows of 4
- * words where the row is a CALL, else empty: argument, offset, kind, word. On any other answer
- * memory and journal keep what they held. */
+ * words. position on 0 is the new one. reply is at most 64 rows of 4 words where the row is a CALL,
+ * else empty: argument, offset, kind, word. On any other answer memory and journal keep what they
+ * held. */
 uint64_t console_forward(CONSOLE_TABLES, uint64_t *memory, size_t memory_length, uint64_t *journal,
                          size_t journal_length, uint64_t position[CONSOLE_POSITION],
                          const uint64_t *reply, size_t reply_length);

@@ -54,14 +54,16 @@ int main(void)
     /* two words a cell, three an entry; the reply puts 5 into n[0], the return, and 7 into n[2] */
     uint64_t memory[10], journal[9], position[CONSOLE_POSITION] = {0};
     const uint64_t reply[] = {0, 0, 1, 5, 1, 0, 1, 7};
-    print("open", console_open(TABLES(call), memory, 10, journal, 9, position, error), position, CONSOLE_POSITION);
+    uint64_t opened = console_open(TABLES(call), memory, 10, journal, 9, position, error);
+    print("open", opened, position, CONSOLE_POSITION);
     uint64_t stepped =
         console_forward(TABLES(call), memory, 10, journal, 9, position, reply, LENGTH(reply));
     print("forward", stepped, position, CONSOLE_POSITION);
     print("cells", 0, memory, 10);
-    print("forward at the end",
-          console_forward(TABLES(call), memory, 10, journal, 9, position, reply, 0), position, CONSOLE_POSITION);
-    print("back", console_back(TABLES(call), memory, 10, journal, 9, position), position, CONSOLE_POSITION);
+    stepped = console_forward(TABLES(call), memory, 10, journal, 9, position, reply, 0);
+    print("forward at the end", stepped, position, CONSOLE_POSITION);
+    uint64_t taken_back = console_back(TABLES(call), memory, 10, journal, 9, position);
+    print("back", taken_back, position, CONSOLE_POSITION);
     print("cells", 0, memory, 10);
     return 0;
 }
