@@ -8,7 +8,7 @@ use native.Mathlib.Omega.{arith}
 use lib.Dec.{ltb}
 use Rattle.tables.specs.Refusal.{indexPastLength}
 use Rattle.tables.specs.Rows.{regionRows, regionKind, regionLength}
-use Rattle.tables.specs.Cells.{start, cellCount}
+use Rattle.tables.specs.Cells.{firstCell, cellCount}
 use Rattle.tables.specs.Lookup.{lookupRegion}
 use Rattle.tables.specs.declared.lookup.Found.{Found}
 use Rattle.tables.specs.declared.lookup.Found.the-variants.{At, Nothing}
@@ -31,12 +31,12 @@ module _ (regions : List ℕ) where
 
   among-below : (n c : ℕ) → regionAmong regions (suc n) c < suc n
   unfolding regionAmong
-  among-below zero c = at (ltb c (start regions 0))
+  among-below zero c = at (ltb c (firstCell regions 0))
     where
       at : (t : Bool) → cond t 0 0 < 1
       at true = omega arith
       at false = omega arith
-  among-below (suc n) c = at (ltb c (start regions (suc n))) (among-below n c)
+  among-below (suc n) c = at (ltb c (firstCell regions (suc n))) (among-below n c)
     where
       at : (t : Bool) → regionAmong regions (suc n) c < suc n → cond t (regionAmong regions (suc n) c) (suc n) < suc (suc n)
       at true h = omega arith
@@ -44,10 +44,10 @@ module _ (regions : List ℕ) where
 
   -- a cell lies in a region of the table
   pub region-below : (c : ℕ) → c < cellCount regions → regionOf regions c < regionRows regions
-  unfolding regionOf cellCount start
+  unfolding regionOf cellCount firstCell
   region-below c h = at (regionRows regions) h
     where
-      at : (n : ℕ) → c < start regions n → regionAmong regions n c < n
+      at : (n : ℕ) → c < firstCell regions n → regionAmong regions n c < n
       at zero h = absurd (omega arith)
       at (suc n) h = among-below n c
 
