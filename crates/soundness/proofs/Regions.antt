@@ -12,7 +12,7 @@ use Rattle.tables.specs.Cells.{firstCell, cellCount}
 use Rattle.tables.specs.Lookup.{lookupRegion}
 use Rattle.tables.specs.declared.lookup.Found.{Found}
 use Rattle.tables.specs.declared.lookup.Found.the-variants.{At, Nothing}
-use Rattle.tables.proofs.LookupLaws.{lookup-within}
+use Rattle.tables.proofs.LookupLaws.{region-row}
 use Rattle.type_check.specs.Codes.{codeOf}
 use Rattle.type_check.proofs.CodeLaws.{code-kind, code-none}
 use Rattle.operands.specs.Kinds.{regionAmong, regionOf, declaredKind}
@@ -80,7 +80,7 @@ KindsAllowed regions = (r : ℕ) → r < regionRows regions → regionKind regio
 module _ {regions : List ℕ} (kinds : KindsAllowed regions) (name : ℕ) where
   pub region-at : (r : ℕ) → lookupRegion regions name ≡ At r → Region regions (codeOf regions name) r
   region-at r e =
-      let l : r < regionRows regions = lookup-within 3 regions name r e in
+      let l : r < regionRows regions = region-row regions name r e in
       let h : regionKind regions r ≤ 3 = kinds r l in
       let q : codeOf regions name ≡ regionKind regions r = code-kind regions name e (omega arith) in
       record { there = l; is = sym q; small = omega arith }
