@@ -14,7 +14,7 @@ use Rattle.tables.specs.declared.lookup.Found.the-variants.{At, Nothing}
 use Rattle.tables.specs.declared.rows.Instruction.{Instruction}
 use Rattle.tables.specs.Tables.{Tables}
 use Rattle.loader.proofs.Loaded.{Loaded, call-arguments, extern-parameters}
-use Rattle.tables.proofs.LookupLaws.{lookup-within}
+use Rattle.tables.proofs.LookupLaws.{extern-row}
 use Rattle.extern_call.specs.Call.{callOf, foundExtern, findCall, arityOf, placeOf, CallRanges, Ranges, Counted, Paired}
 use Rattle.extern_call.specs.Access.{lowerOf, pairedCount}
 use Rattle.extern_call.specs.declared.call.Call.{Call}
@@ -47,7 +47,7 @@ pub call-ranges : {externs parameters arguments : List ℕ} {x : Instruction} {c
 call-ranges {externs} {parameters} {arguments} {x} {call} r e =
     let c = call-at externs x call e in
     rw (← c .signature)
-    (record { argumentRange = r .argumentRange; parameterRange = r .parameterRange (c .row) (lookup-within 4 externs (x .«first_name») (c .row) (c .named)) })
+    (record { argumentRange = r .argumentRange; parameterRange = r .parameterRange (c .row) (extern-row externs (x .«first_name») (c .row) (c .named)) })
 
 place-below : (b₁ b₂ : Bool) (i k n : ℕ) → eqb i 0 ≡ b₂ → i < cond b₁ n (n + 1)
     → cond b₁ (Parameter i) (cond b₂ Return (Parameter (i - 1))) ≡ Parameter k → k < n

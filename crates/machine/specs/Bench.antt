@@ -9,7 +9,7 @@ use Rattle.words.specs.Width.{lowBits, shlAt, ashrAt, topBits, shifted, shiftLe
 use Rattle.tables.specs.Outcome.{Outcome, ok, refuse, _>>=_, _>>_, need}
 use Rattle.tables.specs.First.{first}
 use Rattle.tables.specs.Lookup.{lookupOf, lookupAmong}
-use Rattle.tables.specs.Cells.{start}
+use Rattle.tables.specs.Cells.{firstCell}
 use Rattle.tables.specs.Tables.{Tables, tablesOf}
 use Rattle.tables.specs.declared.rows.Instruction.{Instruction}
 use Rattle.operands.specs.Cells.{readOf, sourceOf, write, offsetOf}
@@ -47,7 +47,7 @@ row family operator first second form source =
 
 -- the outcome of a row, with all that it rests on unfolded
 pub run : ℕ → ℕ → Instruction → Outcome (List Write)
-unfolding outcomeOf plainOutcome familyOf namesOf namedOf addressesOf writtenOf indexedOf indexFits addressOf lookupOf lookupAmong first start
+unfolding outcomeOf plainOutcome familyOf namesOf namedOf addressesOf writtenOf indexedOf indexFits addressOf lookupOf lookupAmong first firstCell
     _>>=_ _>>_ need readOf sourceOf fitsKind widthOf putInto lowBits offsetOf integerIsNegative signed wordOf
     arithmeticOf arithmeticResult integerResult integerDivide integerQuotient
     logicOf logicResult shiftLeft shiftRightArithmetic shifted shlAt ashrAt topBits moveOf exchangeOf loadOf

@@ -9,19 +9,19 @@ use lib.Dec.{ltb}
 use Rattle.words.specs.Integer.{integerIsNegative}
 use Rattle.tables.specs.Outcome.{ok, refuse, _>>_, need}
 use Rattle.tables.specs.Rows.{regionRows, regionLength}
-use Rattle.tables.specs.Cells.{start, cellCount}
+use Rattle.tables.specs.Cells.{firstCell, cellCount}
 use Rattle.tables.specs.Lookup.{lookupRegion}
 use Rattle.tables.specs.declared.lookup.Found.{Found}
 use Rattle.tables.specs.declared.lookup.Found.the-variants.{At, Nothing}
-use Rattle.tables.proofs.CellsLaws.{start-within}
-use Rattle.tables.proofs.LookupLaws.{lookup-within}
+use Rattle.tables.proofs.CellsLaws.{first-cell-within}
+use Rattle.tables.proofs.LookupLaws.{region-row}
 use Rattle.loader.proofs.Loaded.{both, passed}
 use Rattle.operands.specs.Address.{addressOf, indexFits, indexedOf, foundRegion, namedOf, writtenOf}
 
 module _ (regions : List ℕ) where
   pub address-within : (r i : ℕ) → r < regionRows regions → i < regionLength regions r → addressOf regions r i < cellCount regions
   unfolding addressOf
-  address-within r i h l = let k : start regions r + regionLength regions r ≤ cellCount regions = start-within regions r h in omega arith
+  address-within r i h l = let k : firstCell regions r + regionLength regions r ≤ cellCount regions = first-cell-within regions r h in omega arith
 
   -- an index that fits is below the length
   pub index-below : (r i : ℕ) → indexFits regions r i ≡ true → i < regionLength regions r
@@ -46,7 +46,7 @@ module _ (regions : List ℕ) where
   named-at name {r} e = found-at (lookupRegion regions name) r e
 
   pub named-within : (t : Bool) (name : ℕ) {r : ℕ} → namedOf regions t name ≡ ok r → t ≡ true → r < regionRows regions
-  named-within true name {r} e h = lookup-within 3 regions name r (named-at name e)
+  named-within true name {r} e h = region-row regions name r (named-at name e)
   named-within false name e h = let z : _≡_ {A = ℕ} 0 1 = cc in absurd (omega arith)
 
   pub written-within : (t : Bool) (r i : ℕ) {c : ℕ} → (t ≡ true → r < regionRows regions) → writtenOf regions t r i ≡ ok c → t ≡ true → c < cellCount regions

@@ -8,31 +8,31 @@ use lib.ListN.{length, getD}
 use lib.Dec.{ltb}
 use borrow.Author.Tests.{lt-ltb, le-ltb}
 use Rattle.tables.specs.Rows.{regionRows, regionKind, regionLength}
-use Rattle.tables.specs.Cells.{start, cellCount}
-use Rattle.tables.proofs.CellsLaws.{start-next, start-mono}
+use Rattle.tables.specs.Cells.{firstCell, cellCount}
+use Rattle.tables.proofs.CellsLaws.{first-cell-next, first-cell-mono}
 use Rattle.journal.specs.Cells.{held}
 use Rattle.journal.specs.declared.cells.Write.{Write}
 use Rattle.operands.specs.Kinds.{regionAmong, regionOf, declaredKind, zerosFrom, zeros}
 
 module _ (regions : List ℕ) where
-  region-among : (n r i : ℕ) → r < n → i < regionLength regions r → regionAmong regions n (start regions r + i) ≡ r
+  region-among : (n r i : ℕ) → r < n → i < regionLength regions r → regionAmong regions n (firstCell regions r + i) ≡ r
   unfolding regionAmong
   region-among zero r i h l = absurd (omega arith)
   region-among (suc n) r i h l = at (ℕ-discrete r n) (λ q. region-among n r i q l)
     where
-      at : Dec (r ≡ n) → (r < n → regionAmong regions n (start regions r + i) ≡ r) → regionAmong regions (suc n) (start regions r + i) ≡ r
-      at (yes e) ih = rw (e, le-ltb (start regions n + i) (start regions n) (omega arith))
+      at : Dec (r ≡ n) → (r < n → regionAmong regions n (firstCell regions r + i) ≡ r) → regionAmong regions (suc n) (firstCell regions r + i) ≡ r
+      at (yes e) ih = rw (e, le-ltb (firstCell regions n + i) (firstCell regions n) (omega arith))
       at (no ne) ih =
-          let k : start regions (r + 1) ≤ start regions n = start-mono regions (r + 1) n (omega arith) in
-          rw (lt-ltb (start regions r + i) (start regions n) (omega (arith, start-next regions r))) (ih (omega arith))
+          let k : firstCell regions (r + 1) ≤ firstCell regions n = first-cell-mono regions (r + 1) n (omega arith) in
+          rw (lt-ltb (firstCell regions r + i) (firstCell regions n) (omega (arith, first-cell-next regions r))) (ih (omega arith))
 
   -- the cell at an index of a region lies in that region
-  pub region-of : (r i : ℕ) → r < regionRows regions → i < regionLength regions r → regionOf regions (start regions r + i) ≡ r
+  pub region-of : (r i : ℕ) → r < regionRows regions → i < regionLength regions r → regionOf regions (firstCell regions r + i) ≡ r
   unfolding regionOf
   region-of r i h l = region-among (regionRows regions) r i h l
 
   -- and has its kind
-  pub kind-at : (r i : ℕ) → r < regionRows regions → i < regionLength regions r → declaredKind regions (start regions r + i) ≡ regionKind regions r
+  pub kind-at : (r i : ℕ) → r < regionRows regions → i < regionLength regions r → declaredKind regions (firstCell regions r + i) ≡ regionKind regions r
   unfolding declaredKind
   kind-at r i h l = ap (regionKind regions) (region-of r i h l)
 

@@ -8,7 +8,7 @@ use Rattle.tables.specs.Refusal.{indexPastLength, noRule}
 use Rattle.tables.specs.Outcome.{Outcome, ok, refuse, _>>=_, _>>_, need}
 use Rattle.tables.specs.Rows.{regionLength}
 use Rattle.tables.specs.Lookup.{lookupRegion}
-use Rattle.tables.specs.Cells.{start}
+use Rattle.tables.specs.Cells.{firstCell}
 use Rattle.tables.specs.declared.lookup.Found.{Found}
 use Rattle.tables.specs.declared.lookup.Found.the-variants as F
 use Rattle.tables.specs.declared.rows.Instruction.{Instruction}
@@ -25,7 +25,7 @@ use Rattle.operands.specs.declared.address.Indexed.the-variants as A
 
 -- The cell at an index of region r. 01, Machine: "Regions lie in table order". Every address is made here; its laws are in proofs/AddressLaws.antt.
 unfoldable pub addressOf : List ℕ → ℕ → ℕ → ℕ
-addressOf regions r i = start regions r + i
+addressOf regions r i = firstCell regions r + i
 
 -- 14: "index at or past length, or negative"
 unfoldable pub indexFits : List ℕ → ℕ → ℕ → Bool

@@ -4,12 +4,12 @@ use mathlib.Core.Bool.{cond}
 use mathlib.Core.List.{List, [], _∷_}
 use lib.Dec.{ltb}
 use Rattle.tables.specs.Rows.{regionRows, regionKind}
-use Rattle.tables.specs.Cells.{start, cellCount}
+use Rattle.tables.specs.Cells.{firstCell, cellCount}
 
 -- "Regions lie in table order": the row of the last of the first n regions that starts at or before cell c. An empty region is passed over, as the next one starts at the same cell.
 unfoldable pub regionAmong : List ℕ → ℕ → ℕ → ℕ
 regionAmong regions zero c = 0
-regionAmong regions (suc n) c = cond (ltb c (start regions n)) (regionAmong regions n c) n
+regionAmong regions (suc n) c = cond (ltb c (firstCell regions n)) (regionAmong regions n c) n
 
 -- the region that a cell lies in
 unfoldable pub regionOf : List ℕ → ℕ → ℕ

@@ -3,7 +3,7 @@ ghost use mathlib.Core.Path.{_≡_};
 ghost use mathlib.Core.Bool.{true};
 ghost use Prim.Native.Nat.{_<_, _≤_};
 ghost use Rattle.tables.specs.Rows.{regionRows};
-ghost use Rattle.tables.specs.Cells.{start, cellCount};
+ghost use Rattle.tables.specs.Cells.{firstCell, cellCount};
 ghost use Rattle.operands.specs.Address.{indexFits, indexedOf, indexedOutcome, namesSecond, indexesSecond, foundRegion, namedOf, namesOf, namesOutcome, writtenOf, addressesOf, indicesOutcome};
 ghost use Rattle.operands.specs.Reach.{Named};
 use tables::family;
@@ -46,7 +46,7 @@ pub enum Indexed {
 // The first cell of a region.
 pub fn region_start(regions: &[u64], r: usize) -> usize
     requires { ⌜ (r ≤ regionRows (now regions)) × (cellCount (now regions) ≤ 4096) ⌝ }
-    ensures { λ c. ⌜ c ≡ start (now (regions .entry)) r ⌝ }
+    ensures { λ c. ⌜ c ≡ firstCell (now (regions .entry)) r ⌝ }
 {
     let mut c: usize = 0;
     let mut i = 0;

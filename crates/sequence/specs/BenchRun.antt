@@ -18,7 +18,7 @@ use Rattle.loader.specs.Instruction.{operatorsOf, formAllowed, sourceAllowed, o
 use Rattle.tables.specs.Tree.{arityOf, treesFrom, inside, oneTree}
 use Rattle.tables.specs.Lookup.{lookupOf, lookupAmong, distinct}
 use Rattle.loader.specs.Load.{loadLook, allowedTables, distinctNames}
-use Rattle.tables.specs.Cells.{start, cellCount, cellsOf}
+use Rattle.tables.specs.Cells.{firstCell, cellCount, cellsOf}
 use Rattle.type_check.specs.Rule.{arithmeticRule, sourceRule, logicSource, logicRule, moveRule, exchangeRule, loadKinds, loadRule, storeSource, storeRule, ruleOf}
 use Rattle.type_check.specs.Codes.{kindCode, codeOf, operandCode, sourceCode, rowRule}
 use Rattle.type_check.specs.Frame.{numberVerdict, nodeVerdict, treeVerdict, frameRule}
@@ -92,7 +92,7 @@ unfolding fitsKind widthOf lowBits signed wordOf integerIsNegative integerDivide
     realAboveEpsilon size ofBits lt
     _>>=_ _>>_ need first every loadLook wholeTables wholeRows allowedTables regionsAllowed regionAllowed externsAllowed parametersAllowed nodesAllowed
     nodeAllowed argumentsAllowed instructionsAllowed instructionAllowed operatorsOf formAllowed sourceAllowed operandsAllowed oneTree inside treesFrom
-    arityOf distinctNames distinct lookupOf lookupAmong cellsOf cellCount start
+    arityOf distinctNames distinct lookupOf lookupAmong cellsOf cellCount firstCell
     checkOf verdictOf judgementOf rowRule ruleOf sourceCode operandCode codeOf kindCode arithmeticRule sourceRule logicRule logicSource moveRule
     exchangeRule loadRule loadKinds storeRule storeSource frameRule treeVerdict nodeVerdict numberVerdict
     put applied flatten olds log closing entered journaled entriesAt restored undone present

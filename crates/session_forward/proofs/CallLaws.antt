@@ -11,7 +11,7 @@ use Rattle.tables.specs.Outcome.{ok}
 use Rattle.tables.specs.Cells.{cellCount}
 use Rattle.tables.specs.declared.rows.Instruction.{Instruction}
 use Rattle.loader.proofs.Loaded.{both}
-use Rattle.tables.proofs.LookupLaws.{lookup-within}
+use Rattle.tables.proofs.LookupLaws.{region-row}
 use Rattle.extern_call.specs.Call.{CallRanges, resolutionAt}
 use Rattle.extern_call.specs.declared.call.Call.{Call}
 use Rattle.extern_call.specs.declared.call.CallResolution.{CallResolution}
@@ -34,10 +34,10 @@ module _ (regions parameters arguments : List ℕ) (call : Call) where
       → HitWithin regions (y .offset) r → ofResolved (hits y) false r ≡ true → ofResolved (cellHit regions (y .offset)) 0 r < cellCount regions
   cell-below i y (C.Resolved (Vector name v mutable)) e h f =
       let d = resolved-facts regions parameters arguments call i (Vector name v mutable) e .declares in
-      rw (d .named) (address-within regions (d .region) (y .offset) (lookup-within 3 regions name (d .region) (d .named)) (rw (d .named) at h))
+      rw (d .named) (address-within regions (d .region) (y .offset) (region-row regions name (d .region) (d .named)) (rw (d .named) at h))
   cell-below i y (C.Resolved (MemoryReference name index kind mutable)) e h f =
       let d = resolved-facts regions parameters arguments call i (MemoryReference name index kind mutable) e .declares in
-      rw (d .named) (address-within regions (d .region) index (lookup-within 3 regions name (d .region) (d .named)) (rw (d .named) at h))
+      rw (d .named) (address-within regions (d .region) index (region-row regions name (d .region) (d .named)) (rw (d .named) at h))
   cell-below i y (C.Resolved (Immediate real imaginary kind)) e h f = let z : _≡_ {A = ℕ} 0 1 = cc in absurd (omega arith)
   cell-below i y (C.Failed error) e h f = let z : _≡_ {A = ℕ} 0 1 = cc in absurd (omega arith)
 

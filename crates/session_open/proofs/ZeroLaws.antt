@@ -7,9 +7,9 @@ use native.Mathlib.Decide.{ℕ-discrete}
 use lib.ListN.{length, getD}
 use lib.Seq.{ext-getD}
 use Rattle.tables.specs.Rows.{regionRows, regionKind, regionLength, regionAt}
-use Rattle.tables.specs.Cells.{start, cellCount}
+use Rattle.tables.specs.Cells.{firstCell, cellCount}
 use Rattle.tables.specs.declared.rows.Region.{Region}
-use Rattle.tables.proofs.CellsLaws.{start-next, start-within}
+use Rattle.tables.proofs.CellsLaws.{first-cell-next, first-cell-within}
 use Rattle.journal.specs.Cells.{held, put}
 use Rattle.journal.specs.declared.cells.Write.{Write}
 use Rattle.journal.proofs.CellsLaws.{held-same, held-other}
@@ -19,27 +19,27 @@ use Rattle.session_open.specs.Zero.{zeroCell, Zeroed, ZeroedTo}
 
 module _ (regions : List ℕ) where
   pub zeroed-none : (cells : List ℕ) → ZeroedTo regions cells 0 0
-  unfolding start
+  unfolding firstCell
   zeroed-none cells = record { first = refl; zeroed = λ k h. absurd (omega arith) }
 
   -- row r of the table
   module _ (r : ℕ) {x : Region} (e : x ≡ regionAt regions r) where
-    pub region-next : start regions (r + 1) ≡ start regions r + x .length
-    region-next = start-next regions r ∙ ap (λ (y : Region). start regions r + y .length) (sym e)
+    pub region-next : firstCell regions (r + 1) ≡ firstCell regions r + x .length
+    region-next = first-cell-next regions r ∙ ap (λ (y : Region). firstCell regions r + y .length) (sym e)
 
-    pub region-within : r < regionRows regions → start regions r + x .length ≤ cellCount regions
-    region-within h = rw e (start-within regions r h)
+    pub region-within : r < regionRows regions → firstCell regions r + x .length ≤ cellCount regions
+    region-within h = rw e (first-cell-within regions r h)
 
     -- its cell c is written
-    pub zeroed-put : (cells : List ℕ) (c : ℕ) {cells′ : List ℕ} → r < regionRows regions → start regions r ≤ c → c < start regions r + x .length
+    pub zeroed-put : (cells : List ℕ) (c : ℕ) {cells′ : List ℕ} → r < regionRows regions → firstCell regions r ≤ c → c < firstCell regions r + x .length
         → 2 * c + 1 < length cells → Zeroed regions cells c → cells′ ≡ put cells (record { cell = c; kind = x .kind; word = 0 }) → Zeroed regions cells′ (c + 1)
     zeroed-put cells c h l g b z w k d = ap (λ (m : List ℕ). held m k) w ∙ at (ℕ-discrete k c)
       where
         at : Dec (k ≡ c) → held (put cells (record { cell = c; kind = x .kind; word = 0 })) k ≡ zeroCell regions k
         at (yes q) =
             let n : x .length ≡ regionLength regions r = ap (λ (y : Region). y .length) e in
-            let s : start regions r + (c - start regions r) ≡ c = omega arith in
-            let d : declaredKind regions c ≡ regionKind regions r = rw s at (kind-at regions r (c - start regions r) h (omega arith)) in
+            let s : firstCell regions r + (c - firstCell regions r) ≡ c = omega arith in
+            let d : declaredKind regions c ≡ regionKind regions r = rw s at (kind-at regions r (c - firstCell regions r) h (omega arith)) in
             rw q (held-same cells (record { cell = c; kind = x .kind; word = 0 }) b
             ∙ ap (λ (y : ℕ). record { cell = c; kind = y; word = 0 }) (ap (λ (y : Region). y .kind) e ∙ sym d))
         at (no ne) = held-other cells (record { cell = c; kind = x .kind; word = 0 }) k ne ∙ z k (omega arith)

@@ -3,7 +3,7 @@ use Prim.Native.Nat.{ℕ, _+_, _<_}
 use mathlib.Core.List.{List}
 use mathlib.Core.Path.{_≡_}
 use Rattle.tables.specs.Rows.{regionRows}
-use Rattle.tables.specs.Cells.{start}
+use Rattle.tables.specs.Cells.{firstCell}
 use Rattle.journal.specs.Cells.{held}
 use Rattle.journal.specs.declared.cells.Write.{Write}
 use Rattle.operands.specs.Kinds.{declaredKind}
@@ -19,5 +19,5 @@ Zeroed regions cells c = (k : ℕ) → k < c → held cells k ≡ zeroCell regio
 
 -- at region r, whose first cell is c
 pub record ZeroedTo (regions cells : List ℕ) (r c : ℕ) : Type 0 where
-  pub first : c ≡ start regions r
+  pub first : c ≡ firstCell regions r
   pub zeroed : Zeroed regions cells c

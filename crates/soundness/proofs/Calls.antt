@@ -14,7 +14,7 @@ use Rattle.tables.specs.Lookup.{lookupRegion}
 use Rattle.tables.specs.declared.lookup.Found.the-variants as L
 use Rattle.tables.specs.declared.rows.Instruction.{Instruction}
 use Rattle.tables.proofs.FirstLaws.{every-row}
-use Rattle.tables.proofs.LookupLaws.{lookup-within, lookup-named}
+use Rattle.tables.proofs.LookupLaws.{region-row, region-named}
 use Rattle.loader.proofs.Loaded.{both}
 use Rattle.extern_call.specs.Call.{resolutionAt}
 use Rattle.extern_call.specs.Access.{has}
@@ -74,14 +74,14 @@ module _ (t : Tables) (x : Instruction) (kinds : KindsAllowed (t .regions)) wher
       → has name (writeSet t x) ≡ true → GoodWrite t x (write (M.cellFound (t .regions) i (lookupRegion (t .regions) name)) (y .kind) (y .word))
   aimed-good {name} {kind} {i} y a k f h =
       let r = a .region in
-      let l = lookup-within 3 (t .regions) name r (a .named) in
+      let l = region-row (t .regions) name r (a .named) in
       let b : regionKind (t .regions) r ≤ 3 = kinds r l in
       let g : Region (t .regions) kind r = record { there = l; is = a .ofKind; small = omega (arith, a .ofKind) } in
       let w : Kept (t .regions) (write (addressOf (t .regions) r i) (y .kind) (y .word)) = kept (cell-of g i (a .index)) k (rw k at f) in
       rw (a .named) (record {
         there = w .there;
         fits = w .fits;
-        allowed = λ u. rw (region-of (t .regions) r i l (a .index), lookup-named 3 (t .regions) name r (a .named)) h;
+        allowed = λ u. rw (region-of (t .regions) r i l (a .index), region-named (t .regions) name r (a .named)) h;
       })
 
   module _ {call : Call} (v : Resolving (t .regions) (t .externs) (t .parameters) (t .arguments) x call) where

@@ -8,11 +8,11 @@ use native.Mathlib.Omega.{arith}
 use lib.Dec.{ltb}
 use Rattle.tables.specs.Refusal.{indexPastLength}
 use Rattle.tables.specs.Rows.{regionRows, regionKind, regionLength}
-use Rattle.tables.specs.Cells.{start, cellCount}
+use Rattle.tables.specs.Cells.{firstCell, cellCount}
 use Rattle.tables.specs.Lookup.{lookupRegion}
 use Rattle.tables.specs.declared.lookup.Found.{Found}
 use Rattle.tables.specs.declared.lookup.Found.the-variants.{At, Nothing}
-use Rattle.tables.proofs.LookupLaws.{lookup-within}
+use Rattle.tables.proofs.LookupLaws.{region-row}
 use Rattle.type_check.specs.Codes.{codeOf}
 use Rattle.type_check.proofs.CodeLaws.{code-kind, code-none}
 use Rattle.operands.specs.Kinds.{regionAmong, regionOf, declaredKind}
@@ -31,12 +31,12 @@ module _ (regions : List ℕ) where
 
   among-below : (n c : ℕ) → regionAmong regions (suc n) c < suc n
   unfolding regionAmong
-  among-below zero c = at (ltb c (start regions 0))
+  among-below zero c = at (ltb c (firstCell regions 0))
     where
       at : (t : Bool) → cond t 0 0 < 1
       at true = omega arith
       at false = omega arith
-  among-below (suc n) c = at (ltb c (start regions (suc n))) (among-below n c)
+  among-below (suc n) c = at (ltb c (firstCell regions (suc n))) (among-below n c)
     where
       at : (t : Bool) → regionAmong regions (suc n) c < suc n → cond t (regionAmong regions (suc n) c) (suc n) < suc (suc n)
       at true h = omega arith
@@ -44,10 +44,10 @@ module _ (regions : List ℕ) where
 
   -- a cell lies in a region of the table
   pub region-below : (c : ℕ) → c < cellCount regions → regionOf regions c < regionRows regions
-  unfolding regionOf cellCount start
+  unfolding regionOf cellCount firstCell
   region-below c h = at (regionRows regions) h
     where
-      at : (n : ℕ) → c < start regions n → regionAmong regions n c < n
+      at : (n : ℕ) → c < firstCell regions n → regionAmong regions n c < n
       at zero h = absurd (omega arith)
       at (suc n) h = among-below n c
 
@@ -80,7 +80,7 @@ KindsAllowed regions = (r : ℕ) → r < regionRows regions → regionKind regio
 module _ {regions : List ℕ} (kinds : KindsAllowed regions) (name : ℕ) where
   pub region-at : (r : ℕ) → lookupRegion regions name ≡ At r → Region regions (codeOf regions name) r
   region-at r e =
-      let l : r < regionRows regions = lookup-within 3 regions name r e in
+      let l : r < regionRows regions = region-row regions name r e in
       let h : regionKind regions r ≤ 3 = kinds r l in
       let q : codeOf regions name ≡ regionKind regions r = code-kind regions name e (omega arith) in
       record { there = l; is = sym q; small = omega arith }

@@ -87,3 +87,13 @@ from-every test (suc n) i e k l h = at (test i) refl e (ℕ-discrete k i) (λ z 
 pub every-row : (test : ℕ → Bool) (n : ℕ) → every test n ≡ true → (k : ℕ) → k < n → test k ≡ true
 unfolding every
 every-row test n e k h = from-every test n 0 e k (omega arith) (omega arith)
+
+-- and where each row passes, every row does
+all-from : (test : ℕ → Bool) (n i : ℕ) → ((k : ℕ) → i ≤ k → k < i + n → test k ≡ true) → everyFrom test i n ≡ true
+unfolding first
+all-from test zero i all = refl
+all-from test (suc n) i all = rw (all i (omega arith) (omega arith)) (all-from test n (i + 1) (λ k l h. all k (omega arith) (omega arith)))
+
+pub every-all : (test : ℕ → Bool) (n : ℕ) → ((k : ℕ) → k < n → test k ≡ true) → every test n ≡ true
+unfolding every
+every-all test n all = all-from test n 0 (λ k l h. all k (omega arith))

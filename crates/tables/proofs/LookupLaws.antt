@@ -8,8 +8,8 @@ use native.Mathlib.Decide.{ℕ-discrete}
 use borrow.Author.Tests.{ne-eqb, eqb-true, eqb-false}
 use lib.Dec.{eqb}
 use Rattle.tables.specs.First.{first}
-use Rattle.tables.specs.Rows.{rowsOf}
-use Rattle.tables.specs.Lookup.{nameAt, lookupFrom, lookupAmong, lookupOf}
+use Rattle.tables.specs.Rows.{rowsOf, regionWidth, externWidth, regionRows, externRows, regionName}
+use Rattle.tables.specs.Lookup.{nameAt, lookupFrom, lookupAmong, lookupOf, lookupRegion, lookupExtern}
 use Rattle.tables.specs.declared.lookup.Found.{Found}
 use Rattle.tables.specs.declared.lookup.Found.the-variants.{At, Nothing}
 
@@ -47,6 +47,10 @@ module _ (width : ℕ) (xs : List ℕ) (name : ℕ) where
       at false r z (yes s) ih = eqb-false (nameAt width xs i) name r (ap (nameAt width xs) (sym s) ∙ q)
       at false r z (no ne) ih = ih z (omega arith) (omega arith)
 
+  pub among-hit : (d n : ℕ) → lookupAmong width xs name n ≡ At d → Hit width xs name 0 n d
+  unfolding lookupAmong
+  among-hit d n e = from-hit d 0 n e
+
   pub lookup-within : (d : ℕ) → lookupOf width xs name ≡ At d → d < rowsOf width xs
   unfolding lookupOf lookupAmong
   lookup-within d e = let h : d < 0 + rowsOf width xs = from-hit d 0 (rowsOf width xs) e .below in omega arith
@@ -74,3 +78,13 @@ module _ (width : ℕ) (xs : List ℕ) (name : ℕ) where
   pub among-miss : (n : ℕ) → ((k : ℕ) → k < n → nameAt width xs k ≡ name → ⊥) → lookupAmong width xs name n ≡ Nothing
   unfolding lookupAmong
   among-miss n none = from-miss 0 n (λ k l h. none k (omega arith))
+
+-- the row at which a region's or an extern's name is found is there, and a region's has the name
+pub region-row : (regions : List ℕ) (name d : ℕ) → lookupRegion regions name ≡ At d → d < regionRows regions
+region-row = lookup-within regionWidth
+
+pub region-named : (regions : List ℕ) (name d : ℕ) → lookupRegion regions name ≡ At d → regionName regions d ≡ name
+region-named = lookup-named regionWidth
+
+pub extern-row : (externs : List ℕ) (name d : ℕ) → lookupExtern externs name ≡ At d → d < externRows externs
+extern-row = lookup-within externWidth

@@ -6,6 +6,7 @@ use mathlib.Core.Path.{_≡_}
 use native.Mathlib.Omega.{arith}
 use borrow.Author.Tests.{eq-eqb, ne-eqb, leb-true}
 use lib.Dec.{eqb}
+use Rattle.tables.specs.NodeTag as tag
 use Rattle.tables.specs.Rows.{nodeTag}
 use Rattle.tables.specs.Tree.{arityOf, treesFrom, inside}
 use Rattle.tables.proofs.FirstLaws.{left-suc}
@@ -28,11 +29,11 @@ cond-le true x y n h k = h
 cond-le false x y n h k = k
 
 -- no node has more than two children
-pub arity-le : (tag : ℕ) → arityOf tag ≤ 2
+pub arity-le : (x : ℕ) → arityOf x ≤ 2
 unfolding arityOf
-arity-le tag =
-    cond-le (eqb tag 2) _ _ 2 (omega arith)
-    (cond-le (eqb tag 1) _ _ 2 (omega arith) (cond-le (eqb tag 5) _ _ 2 (omega arith) (omega arith)))
+arity-le x =
+    cond-le (eqb x tag.functionCall) _ _ 2 (omega arith)
+    (cond-le (eqb x tag.infixExpression) _ _ 2 (omega arith) (cond-le (eqb x tag.prefixExpression) _ _ 2 (omega arith) (omega arith)))
 
 -- a range that lies in its table
 pub inside-le : (first count rows : ℕ) → inside first count rows ≡ true → first + count ≤ rows

@@ -8,17 +8,29 @@ use Rattle.tables.specs.Rows.{regionRows, regionLength}
 use Rattle.tables.specs.declared.cells.Cells.{Cells}
 use Rattle.tables.specs.declared.cells.Cells.the-variants.{Count, TooMany}
 
--- the number of the first cell of region r: the lengths of the regions before it
-unfoldable pub start : List ℕ → ℕ → ℕ
-start regions zero = 0
-start regions (suc r) = start regions r + regionLength regions r
+-- "at most 4,096 cells"
+abbrev pub cellLimit : ℕ
+cellLimit = 4096
+
+-- what region r adds to the memory: its length
+abbrev pub cellsIn : List ℕ → ℕ → ℕ
+cellsIn regions r = regionLength regions r
+
+-- "Regions lie in table order": the number of cells before region r
+unfoldable pub firstCell : List ℕ → ℕ → ℕ
+firstCell regions zero = 0
+firstCell regions (suc r) = firstCell regions r + cellsIn regions r
+
+-- the cell of its index 0, from which its addresses count
+abbrev pub origin : List ℕ → ℕ → ℕ
+origin regions r = firstCell regions r
 
 -- all cells
 unfoldable pub cellCount : List ℕ → ℕ
-cellCount regions = start regions (regionRows regions)
+cellCount regions = firstCell regions (regionRows regions)
 
 unfoldable pub cellsOf : List ℕ → Outcome ℕ
-cellsOf regions = need (leb (cellCount regions) 4096) tooManyCells >> ok (cellCount regions)
+cellsOf regions = need (leb (cellCount regions) cellLimit) tooManyCells >> ok (cellCount regions)
 
 -- the answer `Cells` of the code
 abbrev pub cellsOutcome : Cells → Outcome ℕ

@@ -1,13 +1,20 @@
 -- 01's node rows: "A parent precedes its children, left first."
 use Prim.Native.Nat.{ℕ, zero, suc, _+_, _-_}
 use mathlib.Core.Bool.{Bool, false, cond, _&&_}
-use mathlib.Core.List.{List}
+use mathlib.Core.List.{List, [], _∷_}
 use lib.Dec.{eqb, leb}
+use Rattle.tables.specs.Cases.{caseOf}
+use Rattle.tables.specs.NodeTag as tag
 use Rattle.tables.specs.Rows.{nodeRows, nodeTag}
 
--- an infix (tag 2) has two children, a function call (1) and a prefix (5) one, the other nodes none
+-- "1 function call, 2 infix, .. 5 prefix": how many children a node of that tag has
+abbrev pub childrenByTag : List (ℕ × ℕ)
+childrenByTag = (tag.functionCall, 1) ∷ (tag.infixExpression, 2) ∷ (tag.prefixExpression, 1) ∷ []
+
+-- the other nodes have none
 unfoldable pub arityOf : ℕ → ℕ
-arityOf tag = cond (eqb tag 2) 2 (cond (eqb tag 1) 1 (cond (eqb tag 5) 1 0))
+unfolding caseOf
+arityOf tag = caseOf tag childrenByTag 0
 
 -- whether the n rows from row i on are exactly `trees` trees, one after the other: a row starts the next tree, whose children's trees follow it
 unfoldable pub treesFrom : List ℕ → ℕ → ℕ → ℕ → Bool

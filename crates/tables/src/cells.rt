@@ -1,7 +1,10 @@
 // Refusal 10: the number of cells.
 ghost use mathlib.Core.Path.{_≡_};
-ghost use Rattle.tables.specs.Cells.{cellsOf, cellsOutcome};
+ghost use Prim.Native.Nat.{_<_};
+ghost use Rattle.tables.specs.Rows.{regionRows};
+ghost use Rattle.tables.specs.Cells.{cellsIn, cellsOf, cellsOutcome};
 use crate::rows::REGION_WIDTH;
+use crate::rows::region_at;
 
 pub const CELL_LIMIT: usize = 4096;
 
@@ -10,7 +13,16 @@ pub enum Cells {
     TooMany,
 }
 
-// The sum of the regions' lengths. It never passes the limit, so it cannot wrap.
+// What a region adds to the memory.
+pub fn cells_in(regions: &[u64], r: usize) -> usize
+    requires { ⌜ r < regionRows (now regions) ⌝ }
+    ensures { λ c. ⌜ c ≡ cellsIn (now (regions .entry)) r ⌝ }
+{
+    let region = region_at(regions, r);
+    region.length as usize
+}
+
+// The sum of what the regions add. It never passes the limit, so it cannot wrap.
 pub fn cell_count(regions: &[u64]) -> Cells
     ensures { λ r. ⌜ cellsOutcome r ≡ cellsOf (now (regions .entry)) ⌝ }
 {
@@ -18,11 +30,11 @@ pub fn cell_count(regions: &[u64]) -> Cells
     let mut cells: usize = 0;
     let mut i = 0;
     while i < rows {
-        let length = regions[i * REGION_WIDTH + 2] as usize;
-        if CELL_LIMIT - cells < length {
+        let own = cells_in(regions, i);
+        if CELL_LIMIT - cells < own {
             return Cells::TooMany;
         }
-        cells += length;
+        cells += own;
         i += 1;
     }
     Cells::Count(cells)

@@ -3,6 +3,7 @@ ghost use mathlib.Core.Path.{_≡_};
 ghost use Prim.Native.Nat.{_-_, _≤_};
 ghost use Rattle.tables.specs.Rows.{nodeRows};
 ghost use Rattle.tables.specs.Tree.{arityOf, inside, treesFrom, oneTree};
+use crate::node_tag;
 use crate::rows::NODE_WIDTH;
 
 // How many children a node of that tag has.
@@ -10,9 +11,9 @@ pub fn arity(tag: u64) -> usize
     ensures { λ r. ⌜ r ≡ arityOf tag ⌝ }
 {
     match tag {
-        2 => 2,
-        1 => 1,
-        5 => 1,
+        node_tag::FUNCTION_CALL => 1,
+        node_tag::INFIX => 2,
+        node_tag::PREFIX => 1,
         _ => 0,
     }
 }

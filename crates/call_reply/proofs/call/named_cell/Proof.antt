@@ -1,8 +1,8 @@
 use borrow.Author.Needs.{needs}
 use native.Mathlib.Omega.{arith}
 use mathlib.Core.Path.{sym, _∙_}
-use Rattle.tables.proofs.CellsLaws.{start-within}
-use Rattle.tables.proofs.LookupLaws.{lookup-within}
+use Rattle.tables.proofs.CellsLaws.{first-cell-within}
+use Rattle.tables.proofs.LookupLaws.{region-row}
 use Rattle.operands.specs.Address.{addressOf}
 use Rattle.call_reply.proofs.call.named_cell.Statement.{statement}
 use Rattle.call_reply.proofs.call.named_cell.Tie as tie
@@ -21,10 +21,10 @@ unfolding addressOf
 returns c = rw (sym (c .before .before .lookup-region .ensures) ∙ c .enum-told .given .1)
 
 region-start-requires : tie.Need-region-start-requires
-region-start-requires c κs = (omega (arith, lookup-within 3 (c .before .before .before .before .before .args .regions .now) (c .before .before .before .before .before .args .name) (c .before .r .given .0 .0) (sym (c .before .before .before .lookup-region .ensures) ∙ c .before .r .given .1)), c .before .before .before .before .before .pre .0)
+region-start-requires c κs = (omega (arith, region-row (c .before .before .before .before .before .args .regions .now) (c .before .before .before .before .before .args .name) (c .before .r .given .0 .0) (sym (c .before .before .before .lookup-region .ensures) ∙ c .before .r .given .1)), c .before .before .before .before .before .pre .0)
 
 add-result : tie.Need-add-result
-add-result c = omega (arith, start-within (c .before .before .before .before .before .before .args .regions .now) (c .before .before .r .given .0 .0) (lookup-within 3 (c .before .before .before .before .before .before .args .regions .now) (c .before .before .before .before .before .before .args .name) (c .before .before .r .given .0 .0) (sym (c .before .before .before .before .lookup-region .ensures) ∙ c .before .before .r .given .1)), rw (sym (c .before .before .before .before .lookup-region .ensures) ∙ c .before .before .r .given .1) at (c .before .before .before .before .before .before .pre .1))
+add-result c = omega (arith, first-cell-within (c .before .before .before .before .before .before .args .regions .now) (c .before .before .r .given .0 .0) (region-row (c .before .before .before .before .before .before .args .regions .now) (c .before .before .before .before .before .before .args .name) (c .before .before .r .given .0 .0) (sym (c .before .before .before .before .lookup-region .ensures) ∙ c .before .before .r .given .1)), rw (sym (c .before .before .before .before .lookup-region .ensures) ∙ c .before .before .r .given .1) at (c .before .before .before .before .before .before .pre .1))
 
 returns-2 : tie.Need-returns-2
 unfolding addressOf

@@ -1,6 +1,6 @@
 use borrow.Author.Needs.{needs}
 use mathlib.Core.Path.{sym, _∙_}
-use Rattle.tables.proofs.LookupLaws.{lookup-within}
+use Rattle.tables.proofs.LookupLaws.{region-row}
 use Rattle.call_reply.proofs.call.named_index_fits.Statement.{statement}
 use Rattle.call_reply.proofs.call.named_index_fits.Tie as tie
 
@@ -17,7 +17,7 @@ returns : tie.Need-returns
 returns c = rw (sym (c .before .before .lookup-region .ensures) ∙ c .enum-told .given .1)
 
 index-fits-requires : tie.Need-index-fits-requires
-index-fits-requires c κs = lookup-within 3 (c .before .before .before .before .before .args .regions .now) (c .before .before .before .before .before .args .name) (c .before .r .given .0 .0) (sym (c .before .before .before .lookup-region .ensures) ∙ c .before .r .given .1)
+index-fits-requires c κs = region-row (c .before .before .before .before .before .args .regions .now) (c .before .before .before .before .before .args .name) (c .before .r .given .0 .0) (sym (c .before .before .before .lookup-region .ensures) ∙ c .before .r .given .1)
 
 returns-2 : tie.Need-returns-2
 returns-2 c = rw (sym (c .before .before .before .before .lookup-region .ensures) ∙ c .before .before .r .given .1) (c .index-fits .ensures)

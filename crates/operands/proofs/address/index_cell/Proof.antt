@@ -3,7 +3,7 @@ use native.Mathlib.Omega.{arith}
 use mathlib.Core.Path.{sym, _∙_}
 use Rattle.tables.specs.Outcome.{_>>_, need}
 use Rattle.operands.specs.Address.{indexedOf, addressOf}
-use Rattle.tables.proofs.CellsLaws.{start-within}
+use Rattle.tables.proofs.CellsLaws.{first-cell-within}
 use Rattle.operands.proofs.AddressLaws.{index-below}
 use Rattle.operands.proofs.address.index_cell.Statement.{statement}
 use Rattle.operands.proofs.address.index_cell.Tie as tie
@@ -15,7 +15,7 @@ region-start-requires : tie.Need-region-start-requires
 region-start-requires c κs = search needs
 
 add-t7 : tie.Need-add-t7
-add-t7 c = omega (arith, start-within (c .before .before .before .before .args .regions .now) (c .before .before .before .before .args .r) (c .before .before .before .before .pre .0), index-below (c .before .before .before .before .args .regions .now) (c .before .before .before .before .args .r) (c .before .before .before .before .args .i) (sym (c .before .before .index-fits .ensures) ∙ c .before .if1 .taken))
+add-t7 c = omega (arith, first-cell-within (c .before .before .before .before .args .regions .now) (c .before .before .before .before .args .r) (c .before .before .before .before .pre .0), index-below (c .before .before .before .before .args .regions .now) (c .before .before .before .before .args .r) (c .before .before .before .before .args .i) (sym (c .before .before .index-fits .ensures) ∙ c .before .if1 .taken))
 
 returns : tie.Need-returns
 unfolding indexedOf addressOf _>>_ need

@@ -2,20 +2,20 @@ use borrow.Author.Needs.{needs}
 use native.Mathlib.Omega.{arith}
 use mathlib.Core.Path.{_≡_, refl, ap, _∙_}
 use Prim.Native.Nat.{ℕ, _≤_, _<_, _-_, _+_}
-use Rattle.tables.specs.Cells.{start, cellCount}
+use Rattle.tables.specs.Cells.{firstCell, cellCount}
 use Rattle.tables.specs.Rows.{regionRows, regionLength}
-use Rattle.tables.proofs.CellsLaws.{start-next, start-within}
+use Rattle.tables.proofs.CellsLaws.{first-cell-next, first-cell-within}
 use Rattle.operands.proofs.address.region_start.Statement.{statement}
 use Rattle.operands.proofs.address.region_start.Tie as tie
 
 abbrev Inv-loop : tie.InvT-loop
-Inv-loop regions r c₀ i₀ c i = (i ≤ r) × (c ≡ start regions i)
+Inv-loop regions r c₀ i₀ c i = (i ≤ r) × (c ≡ firstCell regions i)
 
 abbrev μ-loop : tie.MeasureT-loop
 μ-loop regions r c₀ i₀ c i = r - i
 
 loop-holds : tie.Need-loop-holds Inv-loop μ-loop
-unfolding start
+unfolding firstCell
 loop-holds c = (omega arith, refl)
 
 mul-c : tie.Need-mul-c Inv-loop μ-loop
@@ -31,7 +31,7 @@ shared-slice-read-c : tie.Need-shared-slice-read-c Inv-loop μ-loop
 shared-slice-read-c c = search needs
 
 add-c-2 : tie.Need-add-c-2 Inv-loop μ-loop
-add-c-2 c = omega (arith, start-within (c .before .before .before .args .regions .now) (c .before .before .loop .i) (search needs))
+add-c-2 c = omega (arith, first-cell-within (c .before .before .before .args .regions .now) (c .before .before .loop .i) (search needs))
 
 add-i : tie.Need-add-i Inv-loop μ-loop
 add-i c = search needs
@@ -40,10 +40,10 @@ loop-less : tie.Need-loop-less Inv-loop μ-loop
 loop-less c = search needs
 
 loop-again : tie.Need-loop-again Inv-loop μ-loop
-loop-again c = (omega arith, rw (start-next, ← c .before .before .loop .inv .1))
+loop-again c = (omega arith, rw (first-cell-next, ← c .before .before .loop .inv .1))
 
 returns : tie.Need-returns Inv-loop μ-loop
-returns c = c .before .loop .inv .1 ∙ ap (start (c .before .before .args .regions .now)) (omega arith)
+returns c = c .before .loop .inv .1 ∙ ap (firstCell (c .before .before .args .regions .now)) (omega arith)
 
 pub region-start-spec : {M : Type 1} → statement M
 region-start-spec =

@@ -2,42 +2,39 @@ use Prim.Native.Nat.{ℕ, _+_, _-_, _≤_, _<_}
 use mathlib.Core.Path.{_≡_, refl, sym, ap, _∙_}
 use native.Mathlib.Omega.{arith}
 use Rattle.tables.specs.Rows.{regionRows}
-use Rattle.tables.specs.Cells.{start, cellCount}
-use Rattle.tables.proofs.CellsLaws.{start-next, start-mono, cells-over, cells-counted}
+use Rattle.tables.specs.Cells.{cellLimit, firstCell, cellCount}
+use Rattle.tables.proofs.CellsLaws.{first-cell-next, first-cell-mono, cells-over, cells-counted}
 use borrow.Author.Needs.{needs}
 use Rattle.tables.proofs.cells.cell_count.Statement.{statement}
 use Rattle.tables.proofs.cells.cell_count.Tie as tie
 use Rattle.tables.proofs.cells.cell_count.Reads as reads
 use Rattle.tables.proofs.cells.cell_count.Lts as lts
+use Rattle.tables.proofs.cells.cells_in.Reads as cells-in-reads
 
 abbrev Inv-loop : tie.InvT-loop
-Inv-loop regions rows cells₀ i₀ cells i = (i ≤ regionRows regions) × (cells ≡ start regions i) × (cells ≤ 4096)
+Inv-loop regions rows cells₀ i₀ cells i = (i ≤ regionRows regions) × (cells ≡ firstCell regions i) × (cells ≤ cellLimit)
 
 abbrev μ-loop : tie.MeasureT-loop
 μ-loop regions rows cells₀ i₀ cells i = regionRows regions - i
 
 loop-holds : tie.Need-loop-holds Inv-loop μ-loop
-unfolding start
+unfolding firstCell
 loop-holds c = (omega arith, refl, omega arith)
 
-mul-length : tie.Need-mul-length Inv-loop μ-loop
-mul-length c = search needs
-
-add-length : tie.Need-add-length Inv-loop μ-loop
-add-length c = search needs
-
-mul-length-2 : tie.Need-mul-length-2 Inv-loop μ-loop
-mul-length-2 c = search needs
-
-shared-slice-read-length : tie.Need-shared-slice-read-length Inv-loop μ-loop
-shared-slice-read-length c = search needs
+cells-in-requires : tie.Need-cells-in-requires Inv-loop μ-loop
+cells-in-requires c κs = search needs
 
 sub-if1 : tie.Need-sub-if1 Inv-loop μ-loop
 sub-if1 c = search needs
 
 returns : tie.Need-returns Inv-loop μ-loop
 unfolding cellCount
-returns c = cells-over (c .before .before .before .before .args .regions .now) (let e = start-next (c .before .before .before .before .args .regions .now) (c .before .before .before .loop .i) in let h = start-mono (c .before .before .before .before .args .regions .now) (c .before .before .before .loop .i + 1) (regionRows (c .before .before .before .before .args .regions .now)) (search needs) in let l : 4096 < start (c .before .before .before .before .args .regions .now) (regionRows (c .before .before .before .before .args .regions .now)) = omega (arith, e, h) in l)
+returns c =
+    let regions = c .before .before .before .before .before .args .regions .now in
+    let i = c .before .before .before .loop .i in
+    let e = first-cell-next regions i in
+    let h = first-cell-mono regions (i + 1) (regionRows regions) (search needs) in
+    cells-over regions (omega (arith, e, h, c .before .cells-in .ensures))
 
 add-cells : tie.Need-add-cells Inv-loop μ-loop
 add-cells c = search needs
@@ -49,11 +46,11 @@ loop-less : tie.Need-loop-less Inv-loop μ-loop
 loop-less c = search needs
 
 loop-again : tie.Need-loop-again Inv-loop μ-loop
-loop-again c = (search needs, (let e = start-next (c .before .before .before .before .args .regions .now) (c .before .before .before .loop .i) in omega (arith, e)), omega arith)
+loop-again c = (search needs, omega (arith, first-cell-next (c .before .before .before .before .before .args .regions .now) (c .before .before .before .loop .i), c .before .cells-in .ensures), omega arith)
 
 returns-2 : tie.Need-returns-2 Inv-loop μ-loop
 unfolding cellCount
-returns-2 c = cells-counted (c .before .before .args .regions .now) (c .before .loop .inv .1 ∙ ap (start (c .before .before .args .regions .now)) (omega arith)) (c .before .loop .inv .2)
+returns-2 c = cells-counted (c .before .before .before .args .regions .now) (c .before .loop .inv .1 ∙ ap (firstCell (c .before .before .before .args .regions .now)) (omega arith)) (c .before .loop .inv .2)
 
 pub cell-count-spec : {M : Type 1} → statement M
 cell-count-spec =
@@ -62,10 +59,7 @@ cell-count-spec =
     Inv-loop
     μ-loop
     loop-holds
-    mul-length
-    add-length
-    mul-length-2
-    shared-slice-read-length
+    cells-in-requires
     sub-if1
     returns
     add-cells

@@ -1,6 +1,5 @@
-use borrow.Author.Tests.{ne-eqb}
-use Rattle.tables.proofs.FirstLaws.{tests}
-use Rattle.tables.specs.Tree.{arityOf}
+use Rattle.tables.specs.Tree.{childrenByTag, arityOf}
+use Rattle.tables.proofs.Cases.{other-arm}
 use borrow.Author.Needs.{needs}
 use Rattle.tables.proofs.tree.arity.Statement.{statement}
 use Rattle.tables.proofs.tree.arity.Tie as tie
@@ -21,7 +20,7 @@ returns-3 c = rw (c .match .keys3)
 
 returns-4 : tie.Need-returns-4
 unfolding arityOf
-returns-4 c = simp (ne-eqb _ _ (c .match .rest .0 .0 .1), ne-eqb _ _ (c .match .rest .0 .1), ne-eqb _ _ (c .match .rest .1))
+returns-4 c = other-arm childrenByTag 0 _ (c .match .rest)
 
 pub arity-spec : {M : Type 1} → statement M
 arity-spec = tie.close (tie.spec returns returns-2 returns-3 returns-4)
