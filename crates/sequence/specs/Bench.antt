@@ -4,7 +4,8 @@ use mathlib.Core.List.{List, [], _∷_, _++_}
 use mathlib.Core.Path.{_≡_, refl}
 use Rattle.tables.specs.Bench.{a, n, o, r, q}
 use Rattle.tables.specs.Refusal.{atEnd, journalFull, indexPastLength, negativeShiftCount}
-use Rattle.type_check.specs.Numbers.{bit, realLiteral, imaginary, realOrIntegral, firstSpot, secondSpot, sourceSpot, nodeSpot}
+use Rattle.words.specs.Kind.{bit, realLiteral}
+use Rattle.type_check.specs.Numbers.{imaginary, realOrIntegral, firstSpot, secondSpot, sourceSpot, nodeSpot}
 use Rattle.type_check.specs.Judgement.{Judgement, undefinedMemoryReference, dataTypeMismatch, realValueRequired, operatorOperandMismatch, verdictAt}
 use Rattle.type_check.specs.declared.error.Verdict.{Verdict}
 use Rattle.type_check.specs.declared.error.Verdict.the-variants as T

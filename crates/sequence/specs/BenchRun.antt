@@ -9,6 +9,7 @@ use Rattle.words.specs.Integer.{integerDivide, integerQuotient, integerIsNegati
 use Rattle.words.specs.Width.{lowBits, shlAt, ashrAt, shifted, shiftLeft, shiftRightArithmetic}
 use Rattle.words.specs.Real.{size, realAboveEpsilon}
 use Rattle.tables.specs.Bench.{declarations}
+use Rattle.tables.specs.Cases.{caseOf}
 use Rattle.tables.specs.Outcome.{_>>=_, _>>_, need}
 use Rattle.tables.specs.First.{first, every}
 use Rattle.tables.specs.Tables.{Tables, tablesOf}
@@ -89,7 +90,7 @@ pub record Run : Type 0 where
 -- The lent memory has two words for each of the eight cells, and the journal so many entries; both hold something else before. All that the calls rest on is unfolded.
 unfoldable pub run : List ℕ → List ℕ → ℕ → List Call → Run
 unfolding fitsKind widthOf lowBits signed wordOf integerIsNegative integerDivide integerQuotient shiftLeft shiftRightArithmetic shifted shlAt ashrAt
-    realAboveEpsilon size ofBits lt
+    realAboveEpsilon size ofBits lt caseOf
     _>>=_ _>>_ need first every loadLook wholeTables wholeRows allowedTables regionsAllowed regionAllowed externsAllowed parametersAllowed nodesAllowed
     nodeAllowed argumentsAllowed instructionsAllowed instructionAllowed operatorsOf formAllowed sourceAllowed operandsAllowed oneTree inside treesFrom
     arityOf distinctNames distinct lookupOf lookupAmong cellsOf cellCount firstCell

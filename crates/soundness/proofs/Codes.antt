@@ -1,25 +1,17 @@
 -- What the typing rules say of the kinds that the machine meets: one computed test for each family over all codes, lifted to every code. Assumes nothing.
-use Prim.Native.Nat.{ℕ, _<_}
-use mathlib.Core.Bool.{Bool, true, false, not, cond, _||_, _&&_}
+use Prim.Native.Nat.{ℕ}
+use mathlib.Core.Bool.{Bool, true, false, not, _||_, _&&_}
 use mathlib.Core.Path.{_≡_, refl, ap}
 use mathlib.Core.List.{List, [], _∷_}
-use mathlib.Core.Logic.{_⊎_, inl, inr, ⊎-elim}
+use mathlib.Core.Logic.{inl, inr, ⊎-elim}
 use native.Mathlib.Omega.{arith}
 use lib.Dec.{eqb, ltb}
 use Rattle.words.specs.Kind.{widthOf}
 use Rattle.tables.specs.First.{first, every}
-use Rattle.tables.specs.Rows.{regionKind}
-use Rattle.tables.specs.Lookup.{lookupRegion}
-use Rattle.tables.specs.declared.lookup.Found.{Found}
-use Rattle.tables.specs.declared.lookup.Found.the-variants.{At, Nothing}
-use Rattle.tables.specs.declared.rows.Instruction.{Instruction}
-use Rattle.tables.proofs.FirstLaws.{every-row}
 use Rattle.loader.proofs.Loaded.{both}
 use Rattle.type_check.specs.Judgement.{Judgement, pass, passes}
-use Rattle.type_check.specs.Numbers.{absent}
 use Rattle.type_check.specs.Rule as T
-use Rattle.type_check.specs.Codes.{foundCode, codeOf, referenceCode, operandCode}
-use Rattle.type_check.proofs.CodeLaws.{kind-below}
+use Rattle.type_check.proofs.CodeLaws.{Code, everyCode, each-code}
 use Rattle.operators.specs.Operators.{arithmeticKinds, comparisonKinds, logicKinds, unaryKinds}
 
 -- ---- tests that all hold
@@ -44,17 +36,7 @@ implied false b e h = cc
 abbrev implies : Judgement → List Bool → Bool
 implies rule wants = not (passes rule) || allOf wants
 
--- ---- codes: those below n, and `absent`. A name's code is one with n = 4, a source's, with the literals, one with n = 6.
-
-abbrev pub Code : ℕ → ℕ → Type 0
-Code n c = (c < n) ⊎ (c ≡ absent)
-
-abbrev everyCode : ℕ → (ℕ → Bool) → Bool
-everyCode n test = every test n && test absent
-
-each-code : (n : ℕ) (test : ℕ → Bool) → everyCode n test ≡ true → (c : ℕ) → Code n c → test c ≡ true
-each-code n test t c (inl h) = every-row test n (both (every test n) (test absent) t .0) c h
-each-code n test t c (inr e) = rw e (both (every test n) (test absent) t .1)
+-- ---- lifted to every code
 
 -- a rule of one, two and three codes, the source's last
 given₁ : (n : ℕ) (rule : ℕ → Judgement) (wants : ℕ → List Bool) → everyCode n (λ s. implies (rule s) (wants s)) ≡ true
@@ -71,24 +53,6 @@ given₃ : (rule : ℕ → ℕ → ℕ → Judgement) (wants : ℕ → ℕ → �
     → (d e s : ℕ) → Code 4 d → Code 4 e → Code 6 s → rule d e s ≡ pass → Trues (wants d e s)
 given₃ rule wants t d e s c =
     given₂ (rule d) (wants d) (each-code 4 (λ d. everyCode 4 (λ e. everyCode 6 (λ s. implies (rule d e s) (wants d e s)))) t d c) e s
-
--- the codes of a row's operands
-pub name-code : (regions : List ℕ) (name : ℕ) → Code 4 (codeOf regions name)
-unfolding codeOf
-name-code regions name = at (lookupRegion regions name)
-  where
-    at : (f : Found) → Code 4 (foundCode regions f)
-    at (At k) = inl (kind-below (regionKind regions k))
-    at Nothing = inr refl
-
-pub operand-code : (regions : List ℕ) (x : Instruction) → Code 6 (operandCode regions x)
-unfolding operandCode
-operand-code regions x = at (eqb (x .«source_form») 0) (eqb (x .«source_form») 1)
-  where
-    at : (a b : Bool) → Code 6 (cond a 4 (cond b 5 (referenceCode regions x)))
-    at true b = inl (omega arith)
-    at false true = inl (omega arith)
-    at false false = ⊎-elim (λ h. inl (omega arith)) inr (name-code regions (x .«source_first»))
 
 -- ---- what is wanted of a family's codes: the operands are declared, and the machine has a rule for their kinds
 

@@ -1,15 +1,14 @@
 -- Where a row's operands lie: its declared names have regions of the codes that the type check gives them, and its written indices cells of these kinds.
 -- And its source, by its form. Assumes nothing.
 use Prim.Native.Nat.{ℕ, _<_, _≤_}
-use mathlib.Core.Bool.{Bool, true, false, cond, _||_}
+use mathlib.Core.Bool.{Bool, true, false, _||_}
 use mathlib.Core.List.{List}
-use mathlib.Core.Path.{_≡_, refl, sym}
+use mathlib.Core.Path.{_≡_, refl}
 use native.Mathlib.Omega.{arith}
 use lib.Dec.{eqb}
 use borrow.Author.Tests.{eqb-true, ne-eqb, le-ltb}
-use Rattle.loader.specs.Instruction.{formAllowed}
 use Rattle.tables.specs.declared.rows.Instruction.{Instruction}
-use Rattle.type_check.specs.Codes.{firstCode, secondCode, referenceCode, operandCode, sourceCode}
+use Rattle.type_check.specs.Codes.{firstCode, secondCode, referenceCode}
 use Rattle.operands.specs.Address.{namesFirst, indexesFirst, namesSecond, indexesSecond, namesSource, namesOf, addressesOf}
 use Rattle.operands.specs.declared.address.NamedRegions.{NamedRegions}
 use Rattle.operands.specs.declared.address.Addresses.{Addresses}
@@ -70,21 +69,6 @@ logic-form form e = at (eqb form 0) refl e
 -- form 3 is no reference
 pub no-source : {A : Type 0} (form : ℕ) → eqb form 3 ≡ true → namesSource form ≡ true → A
 no-source form e h = absurd (omega (arith, eqb-true form 3 e, eqb-true form 2 h))
-
-module _ (regions : List ℕ) (x : Instruction) where
-  -- form 2 is a reference
-  pub reference-is : namesSource (x .«source_form») ≡ true → operandCode regions x ≡ referenceCode regions x
-  unfolding operandCode
-  reference-is e = rw (eqb-true (x .«source_form») 2 e)
-
-  -- "6 load (.. source = offset reference)": its code is an operand's too
-  pub source-is : formAllowed (x .family) (x .«source_form») ≡ true → sourceCode regions x ≡ operandCode regions x
-  unfolding sourceCode formAllowed
-  source-is h = at (eqb (x .family) 6) refl
-    where
-      at : (t : Bool) → eqb (x .family) 6 ≡ t → cond t (referenceCode regions x) (operandCode regions x) ≡ operandCode regions x
-      at true e = sym (reference-is (rw (eqb-true (x .family) 6 e) at h))
-      at false e = refl
 
 -- families 8 to 10 look nothing up
 pub past : (f : ℕ) → 8 ≤ f → (namesFirst f ≡ false) × (namesSecond f ≡ false)

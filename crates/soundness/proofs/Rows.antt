@@ -8,12 +8,14 @@ use native.Mathlib.Omega.{arith}
 use lib.ListN.{length}
 use lib.Dec.{eqb}
 use borrow.Author.Tests.{ltb-true}
+use Rattle.tables.specs.Cases.{caseOf}
 use Rattle.tables.specs.Refusal.{otherInstruction, unfitReply}
 use Rattle.loader.specs.Instruction.{operatorsOf, formAllowed}
 use Rattle.tables.specs.declared.rows.Instruction.{Instruction}
 use Rattle.type_check.specs.Judgement.{pass}
 use Rattle.type_check.specs.Rule.{ruleOf}
 use Rattle.type_check.specs.Codes.{firstCode, secondCode, referenceCode, operandCode, rowRule}
+use Rattle.type_check.proofs.CodeLaws.{Code, name-code, operand-code, reference-is, source-is}
 use Rattle.journal.specs.Each.{none}
 use Rattle.operands.specs.Address.{namesSource}
 use Rattle.operands.specs.Cells.{sourceOf}
@@ -24,7 +26,7 @@ use Rattle.operands.specs.declared.address.Addresses.{Addresses}
 use Rattle.machine.proofs.Ends.{Ends, Ruled, fine, bind, tested}
 use Rattle.soundness.specs.Sound.{Typed}
 use Rattle.soundness.proofs.Regions.{KindsAllowed}
-use Rattle.soundness.proofs.Operands.{Declared, Placed, names-ends, addresses-ends, logic-form, no-source, reference-is, source-is, past}
+use Rattle.soundness.proofs.Operands.{Declared, Placed, names-ends, addresses-ends, logic-form, no-source, past}
 use Rattle.soundness.proofs.Codes as C
 use Rattle.soundness.proofs.Families as F
 use Rattle.soundness.proofs.Values.{Holds, Keeps, source-ends}
@@ -51,14 +53,14 @@ module _ {regions cells : List ℕ} (typed : Typed regions cells) (x : Instructi
   abbrev s : ℕ
   s = operandCode regions x
 
-  dc : C.Code 4 d
-  dc = C.name-code regions (x .«first_name»)
+  dc : Code 4 d
+  dc = name-code regions (x .«first_name»)
 
-  ec : C.Code 4 e
-  ec = C.name-code regions (x .«second_name»)
+  ec : Code 4 e
+  ec = name-code regions (x .«second_name»)
 
-  sc : C.Code 6 s
-  sc = C.operand-code regions x
+  sc : Code 6 s
+  sc = operand-code regions x
 
   -- a row of family f: its names are declared, and from where its operands lie it is sound
   abbrev Ready : ℕ → Type 0
@@ -77,7 +79,7 @@ module _ {regions cells : List ℕ} (typed : Typed regions cells) (x : Instructi
 
   -- by the family: "18 names" and "18 row's cells", "18 cell reached" are not met where its rule passes
   ready : (f : ℕ) → x .family ≡ f → (f < 8 → ruleOf f (x .operator) d e s ≡ pass) → Ready f
-  unfolding ruleOf familyOf formAllowed operatorsOf
+  unfolding ruleOf familyOf formAllowed operatorsOf caseOf
   ready zero q h =
       let w = C.arithmetic-wants d s dc sc (h (omega arith)) in
       let l = ltb-true _ 3 (rw q at (k .form)) in (

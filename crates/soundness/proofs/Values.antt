@@ -9,6 +9,7 @@ use borrow.Author.Tests.{eqb-true, eqb-false, eq-eqb}
 use Rattle.words.specs.Kind.{widthOf, fitsKind}
 use Rattle.words.specs.Width.{lowBits}
 use Rattle.words.specs.Fits.{fits-of, fits-below, lowBits-fits}
+use Rattle.tables.specs.Cases.{caseOf}
 use Rattle.tables.specs.Refusal.{noRule}
 use Rattle.tables.specs.Outcome.{Outcome, ok, _>>_, need}
 use Rattle.tables.specs.Cells.{cellCount}
@@ -66,7 +67,7 @@ module _ {regions cells : List ℕ} (typed : Typed regions cells) where
   pub source-ends : (x : Instruction) (c : ℕ) → x .«source_first» < 2 ^ 64 → x .«source_form» < 3
       → (namesSource (x .«source_form») ≡ true → Cell regions (codeOf regions (x .«source_first»)) c)
       → Ends Ruled (Holds (operandCode regions x)) (sourceOf cells x c)
-  unfolding operandCode sourceOf widthOf
+  unfolding operandCode sourceOf widthOf caseOf
   source-ends x c w f t = at (eqb (x .«source_form») 0) (eqb (x .«source_form») 1) refl refl
     where
       at : (a b : Bool) → eqb (x .«source_form») 0 ≡ a → eqb (x .«source_form») 1 ≡ b

@@ -1,4 +1,4 @@
--- What the verdict on a program says: an error is of one of its rows; where it is accepted, each row passes. And a row's judgement, by
+-- What the verdict on a program says: an error is the judgement on one of its rows; where it is accepted, each row passes. And a row's judgement, by
 -- its family; and what the check asks for, from the loader's acceptance. Assumes nothing.
 use Prim.Native.Nat.{ℕ, _+_, _<_, _≤_}
 use mathlib.Core.Bool.{true, false, cond}
@@ -8,10 +8,10 @@ use mathlib.Core.Path.{_≡_, refl, sym, ap, _∙_}
 use native.Mathlib.Omega.{arith}
 use borrow.Author.Tests.{eq-eqb, ne-eqb}
 use lib.Dec.{eqb}
-use lib.ListN.{List·getD-eq-default}
 use Rattle.tables.specs.Tables.{Tables}
 use Rattle.tables.specs.Rows.{instructionRows, instructionAt}
 use Rattle.tables.specs.declared.rows.Instruction.{Instruction}
+use Rattle.tables.proofs.Cases.{Missed, other-arm}
 use Rattle.loader.proofs.Loaded.{Loaded, frame-inside}
 use Rattle.type_check.specs.Judgement.{Judgement, pass, fail, verdictAt}
 use Rattle.type_check.specs.Rule.{rules, ruleOf}
@@ -41,13 +41,13 @@ module _ (regions nodes : List ℕ) (x : Instruction) where
   unfolding judgementOf rowRule sourceCode
   family-judgement k e f = rw (ap (λ (n : ℕ). eqb n 8) e ∙ f, ap (λ (n : ℕ). eqb n 6) e, e)
 
+  abbrev pub ruled : List (ℕ × Judgement)
+  ruled = rules (x .operator) (firstCode regions x) (secondCode regions x) (sourceCode regions x)
+
   -- "Families 9 and 10 pass."
-  pub other-judgement : 9 ≤ x .family → judgementOf regions nodes x ≡ pass
+  pub other-judgement : (x .family ≡ 8 → ⊥) → Missed (Unit {0}) ruled (x .family) → judgementOf regions nodes x ≡ pass
   unfolding rowRule ruleOf
-  other-judgement h =
-      let l : 8 ≤ x .family = omega arith in
-      row-judgement (λ e. omega arith)
-      ∙ List·getD-eq-default (rules (x .operator) (firstCode regions x) (secondCode regions x) (sourceCode regions x)) pass l
+  other-judgement ne m = row-judgement ne ∙ sym (other-arm ruled pass (x .family) m)
 
 passes : (row : ℕ) (j : Judgement) → isError (verdictAt row j) ≡ false → j ≡ pass
 passes row pass q = refl
@@ -57,16 +57,21 @@ same-row : (row : ℕ) (j : Judgement) {e : TypeError} → Error e ≡ verdictAt
 same-row row pass q = let z : _≡_ {A = ℕ} 0 1 = cc in absurd (omega arith)
 same-row row (fail f) q = cc
 
+-- an error that was reported: its row is one of the program's, and it is that row's judgement
+pub record Reported (regions nodes instructions : List ℕ) (e : TypeError) : Type 0 where
+  pub inside : e .row < instructionRows instructions
+  pub is : Error e ≡ verdictAt (e .row) (judgementOf regions nodes (instructionAt instructions (e .row)))
+
 module _ (regions nodes instructions : List ℕ) where
-  -- an error is of one of the rows
-  pub error-row : {e : TypeError} → checkOf regions nodes instructions ≡ Error e → e .row < instructionRows instructions
+  pub reported : {e : TypeError} → checkOf regions nodes instructions ≡ Error e → Reported regions nodes instructions e
   unfolding checkOf verdictOf
-  error-row {e} q =
+  reported {e} q =
       ⊎-elim
       (λ h.
-      let s : e .row ≡ h .row = same-row (h .row) (judgementOf regions nodes (instructionAt instructions (h .row))) (sym q ∙ h .is) in
+      let w : Error e ≡ verdictAt (h .row) (judgementOf regions nodes (instructionAt instructions (h .row))) = sym q ∙ h .is in
+      let s : e .row ≡ h .row = same-row (h .row) (judgementOf regions nodes (instructionAt instructions (h .row))) w in
       let b : h .row < 0 + instructionRows instructions = h .below in
-      omega arith)
+      record { inside = omega arith; is = w ∙ ap (λ (k : ℕ). verdictAt k (judgementOf regions nodes (instructionAt instructions k))) (sym s) })
       (λ m. let z : _≡_ {A = ℕ} 0 1 = cc in absurd (omega arith))
       (searched _ _ _ 0 (instructionRows instructions))
 

@@ -1,19 +1,26 @@
 -- What a lookup, made by the code, says of a name's code; and the tests on codes that the rules make. Assumes nothing.
 use Prim.Native.Nat.{ℕ, _+_, _<_, _≤_}
-use mathlib.Core.Bool.{Bool, true, false, cond}
+use mathlib.Core.Bool.{Bool, true, false, cond, _&&_}
 use mathlib.Core.List.{List}
 use mathlib.Core.Logic.{_⊎_, inl, inr, ⊎-elim}
 use mathlib.Core.Path.{_≡_, refl, sym, ap, _∙_}
 use native.Mathlib.Omega.{arith}
-use borrow.Author.Tests.{ltb-true, ltb-false, eqb-false, eq-eqb, ne-eqb, lt-ltb, le-ltb}
+use borrow.Author.Tests.{ltb-true, ltb-false, eqb-true, eqb-false, eq-eqb, ne-eqb, lt-ltb, le-ltb}
 use lib.Dec.{eqb}
-use Rattle.tables.specs.Lookup.{lookupRegion, isAt}
+use Rattle.tables.specs.Cases.{caseOf}
+use Rattle.tables.specs.First.{every}
+use Rattle.tables.specs.Lookup.{lookupRegion}
+use Rattle.tables.specs.Names.{namesSource}
 use Rattle.tables.specs.Rows.{regionKind}
 use Rattle.tables.specs.declared.lookup.Found.{Found}
 use Rattle.tables.specs.declared.lookup.Found.the-variants.{At, Nothing}
 use Rattle.tables.specs.declared.rows.Instruction.{Instruction}
+use Rattle.tables.proofs.FirstLaws.{every-row}
+use Rattle.loader.specs.Instruction.{formAllowed}
+use Rattle.loader.proofs.Loaded.{both}
+use Rattle.type_check.specs.Numbers.{absent}
 use Rattle.type_check.specs.Rule.{undeclared, bitOrOctet, notReal}
-use Rattle.type_check.specs.Codes.{kindCode, foundCode, codeOf, operandCode, sourceCode}
+use Rattle.type_check.specs.Codes.{kindCode, foundCode, codeOf, referenceCode, operandCode, sourceCode}
 
 pub kind-below : (kind : ℕ) → kindCode kind < 4
 unfolding kindCode
@@ -83,10 +90,6 @@ bit-or-octet-left k h n m = at (eqb k 0) refl
 pub isnt : {x a : ℕ} (b : ℕ) → x ≡ a → eqb a b ≡ false → eqb x b ≡ false
 isnt b e f = rw e f
 
--- a number that is none of the first k + 1
-pub past : (k : ℕ) {n : ℕ} → k ≤ n → (n ≡ k → ⊥) → k + 1 ≤ n
-past k h ne = omega (arith, ne)
-
 -- ---- for callers
 
 -- an allowed kind is its own code
@@ -101,31 +104,45 @@ code-kind regions name {k} e h = ap (foundCode regions) e ∙ at (notReal (regio
         let s : 3 ≡ regionKind regions k = omega arith in
         sym (kind-high (regionKind regions k) refl l) ∙ s
 
-found-below : (regions : List ℕ) (f : Found) → foundCode regions f < 9
-found-below regions (At k) = let h = kind-below (regionKind regions k) in omega arith
-found-below regions Nothing = omega arith
+-- ---- the codes that operands have: those below n, and `absent`. A name's is one with n = 4, a source's, with the literals, one with n = 6.
 
--- every code of an operand is below 9
-pub code-below : (regions : List ℕ) (name : ℕ) → codeOf regions name < 9
+abbrev pub Code : ℕ → ℕ → Type 0
+Code n c = (c < n) ⊎ (c ≡ absent)
+
+abbrev pub everyCode : ℕ → (ℕ → Bool) → Bool
+everyCode n test = every test n && test absent
+
+pub each-code : (n : ℕ) (test : ℕ → Bool) → everyCode n test ≡ true → (c : ℕ) → Code n c → test c ≡ true
+each-code n test t c (inl h) = every-row test n (both (every test n) (test absent) t .0) c h
+each-code n test t c (inr e) = rw e (both (every test n) (test absent) t .1)
+
+pub name-code : (regions : List ℕ) (name : ℕ) → Code 4 (codeOf regions name)
 unfolding codeOf
-code-below regions name = found-below regions (lookupRegion regions name)
-
-cond-below : (t : Bool) {a b : ℕ} → a < 9 → b < 9 → cond t a b < 9
-cond-below true h l = h
-cond-below false h l = l
-
-pub source-below : (regions : List ℕ) (x : Instruction) → sourceCode regions x < 9
-unfolding sourceCode operandCode
-source-below regions x =
-    cond-below (eqb (x .family) 6) (code-below regions (x .«source_first»))
-    (cond-below (eqb (x .«source_form») 0) (omega arith)
-    (cond-below (eqb (x .«source_form») 1) (omega arith) (code-below regions (x .«source_first»))))
-
--- a name whose code says so is declared
-pub code-at : (regions : List ℕ) (name : ℕ) → undeclared (codeOf regions name) ≡ false → isAt (lookupRegion regions name) ≡ true
-unfolding codeOf
-code-at regions name = at (lookupRegion regions name)
+name-code regions name = at (lookupRegion regions name)
   where
-    at : (f : Found) → undeclared (foundCode regions f) ≡ false → isAt f ≡ true
-    at (At k) e = refl
-    at Nothing e = let z : _≡_ {A = ℕ} 0 1 = cc in absurd (omega arith)
+    at : (f : Found) → Code 4 (foundCode regions f)
+    at (At k) = inl (kind-below (regionKind regions k))
+    at Nothing = inr refl
+
+module _ (regions : List ℕ) (x : Instruction) where
+  pub operand-code : Code 6 (operandCode regions x)
+  unfolding operandCode caseOf
+  operand-code = at (eqb (x .«source_form») 0) (eqb (x .«source_form») 1)
+    where
+      at : (a b : Bool) → Code 6 (cond a 4 (cond b 5 (referenceCode regions x)))
+      at true b = inl (omega arith)
+      at false true = inl (omega arith)
+      at false false = ⊎-elim (λ h. inl (omega arith)) inr (name-code regions (x .«source_first»))
+
+  pub reference-is : namesSource (x .«source_form») ≡ true → operandCode regions x ≡ referenceCode regions x
+  unfolding operandCode caseOf
+  reference-is e = rw (eqb-true (x .«source_form») 2 e)
+
+  -- "6 load (.. source = offset reference)": its code is an operand's too
+  pub source-is : formAllowed (x .family) (x .«source_form») ≡ true → sourceCode regions x ≡ operandCode regions x
+  unfolding sourceCode formAllowed caseOf
+  source-is h = at (eqb (x .family) 6) refl
+    where
+      at : (t : Bool) → eqb (x .family) 6 ≡ t → cond t (referenceCode regions x) (operandCode regions x) ≡ operandCode regions x
+      at true e = sym (reference-is (rw (eqb-true (x .family) 6 e) at h))
+      at false e = refl

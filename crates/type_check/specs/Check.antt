@@ -5,7 +5,7 @@ use mathlib.Core.List.{List, [], _∷_}
 use mathlib.Core.Path.{_≡_}
 use lib.Dec.{eqb}
 use Rattle.tables.specs.First.{first}
-use Rattle.tables.specs.Refusal.{typeError}
+use Rattle.tables.specs.Family as family
 use Rattle.tables.specs.Rows.{nodeRows, instructionRows, instructionAt}
 use Rattle.tables.specs.declared.rows.Instruction.{Instruction}
 use Rattle.type_check.specs.Judgement.{Judgement, verdictAt}
@@ -17,7 +17,7 @@ use Rattle.type_check.specs.declared.error.Verdict.the-variants.{Accepte
 
 -- a frame by its nodes, every other row by its operands' codes
 unfoldable pub judgementOf : List ℕ → List ℕ → Instruction → Judgement
-judgementOf regions nodes x = cond (eqb (x .family) 8) (frameRule regions nodes x) (rowRule regions x)
+judgementOf regions nodes x = cond (eqb (x .family) family.frame) (frameRule regions nodes x) (rowRule regions x)
 
 unfoldable pub verdictOf : List ℕ → List ℕ → ℕ → Instruction → Verdict
 verdictOf regions nodes row x = verdictAt row (judgementOf regions nodes x)
@@ -42,18 +42,9 @@ checkOf regions nodes instructions = checkFrom regions nodes instructions 0 (ins
 abbrev pub errorWords : TypeError → List ℕ
 errorWords e = e .kind ∷ e .row ∷ e .spot ∷ e .«src_spot» ∷ e .«first_code» ∷ e .«second_code» ∷ []
 
--- a verdict's cases: 01's number, 5 for a type error, and the error's words
-abbrev pub verdictNumber : Verdict → ℕ
-verdictNumber Accepted = 0
-verdictNumber (Error e) = typeError
-
-abbrev pub verdictWords : Verdict → List ℕ
-verdictWords Accepted = []
-verdictWords (Error e) = errorWords e
-
 -- a frame's range lies in the node table, as the loader's 2 leaves it
 pub record FrameInside (nodes : List ℕ) (x : Instruction) : Type 0 where
-  pub inside : x .family ≡ 8 → x .«first_name» + x .«first_index» ≤ nodeRows nodes
+  pub inside : x .family ≡ family.frame → x .«first_name» + x .«first_index» ≤ nodeRows nodes
 
 pub record FramesInside (nodes instructions : List ℕ) : Type 0 where
   pub row : (k : ℕ) → k < instructionRows instructions → FrameInside nodes (instructionAt instructions k)

@@ -1,14 +1,18 @@
 -- The codes of a row's operands, by lookup.
 use Prim.Native.Nat.{ℕ}
 use mathlib.Core.Bool.{cond}
-use mathlib.Core.List.{List}
+use mathlib.Core.List.{List, [], _∷_}
 use lib.Dec.{eqb}
+use Rattle.words.specs.Kind.{real, integerLiteral, realLiteral}
+use Rattle.tables.specs.Cases.{caseOf}
+use Rattle.tables.specs.Family as family
+use Rattle.tables.specs.Source as source
 use Rattle.tables.specs.Lookup.{lookupRegion}
 use Rattle.tables.specs.Rows.{regionKind}
 use Rattle.tables.specs.declared.lookup.Found.{Found}
 use Rattle.tables.specs.declared.lookup.Found.the-variants.{At, Nothing}
 use Rattle.tables.specs.declared.rows.Instruction.{Instruction}
-use Rattle.type_check.specs.Numbers.{real, integerLiteral, realLiteral, absent}
+use Rattle.type_check.specs.Numbers.{absent}
 use Rattle.type_check.specs.Rule.{notReal, ruleOf}
 use Rattle.type_check.specs.Judgement.{Judgement}
 
@@ -37,11 +41,13 @@ referenceCode regions x = codeOf regions (x .«source_first»)
 -- "source form (0 integer literal, 1 real literal, 2 reference, ..)"
 unfoldable pub operandCode : List ℕ → Instruction → ℕ
 operandCode regions x =
-    cond (eqb (x .«source_form») 0) integerLiteral (cond (eqb (x .«source_form») 1) realLiteral (referenceCode regions x))
+    caseOf (x .«source_form»)
+    ((source.integerLiteral, integerLiteral) ∷ (source.realLiteral, realLiteral) ∷ [])
+    (referenceCode regions x)
 
 -- "6 load (.. source = offset reference)"
 unfoldable pub sourceCode : List ℕ → Instruction → ℕ
-sourceCode regions x = cond (eqb (x .family) 6) (referenceCode regions x) (operandCode regions x)
+sourceCode regions x = cond (eqb (x .family) family.load) (referenceCode regions x) (operandCode regions x)
 
 -- the rule of a row that is no frame, at its operands' codes
 unfoldable pub rowRule : List ℕ → Instruction → Judgement

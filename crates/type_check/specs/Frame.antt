@@ -1,14 +1,17 @@
 -- 01, "Type check": "Frame: left before right; address declared and REAL (3); imaginary part above 2^-52 in size is 3, NaN passes; variable is 3."
 use Prim.Native.Nat.{ℕ, _+_}
 use mathlib.Core.Bool.{Bool, true, false, cond}
-use mathlib.Core.List.{List}
+use mathlib.Core.List.{List, [], _∷_}
 use lib.Dec.{eqb}
+use Rattle.words.specs.Kind.{real}
+use Rattle.tables.specs.Cases.{caseOf}
+use Rattle.tables.specs.NodeTag as tag
 use Rattle.tables.specs.First.{first}
 use Rattle.tables.specs.Rows.{nodeAt}
 use Rattle.tables.specs.declared.rows.Node.{Node}
 use Rattle.tables.specs.declared.rows.Instruction.{Instruction}
 use Rattle.words.specs.Real.{realAboveEpsilon}
-use Rattle.type_check.specs.Numbers.{real, imaginary, variable, nodeSpot}
+use Rattle.type_check.specs.Numbers.{imaginary, variable, nodeSpot}
 use Rattle.type_check.specs.Judgement.{Judgement, pass, undefinedMemoryReference, realValueRequired}
 use Rattle.type_check.specs.Rule.{undeclared}
 use Rattle.type_check.specs.Codes.{codeOf}
@@ -27,12 +30,17 @@ addressRule code = cond (undeclared code) (Fails Undefined) (cond (eqb code real
 unfoldable pub numberVerdict : ℕ → NodeVerdict
 numberVerdict bits = cond (realAboveEpsilon bits) (Fails (NotReal imaginary)) Real
 
--- a node by itself. Tags: "0 address (name, index), .. 3 number (real bits, imaginary bits), .. 6 variable (name)"; "variable is 3"
+-- by tag; "variable is 3"
+abbrev pub nodeVerdicts : List ℕ → Node → List (ℕ × NodeVerdict)
+nodeVerdicts regions node =
+    (tag.address, addressRule (codeOf regions (node .first)))
+    ∷ (tag.number, numberVerdict (node .second))
+    ∷ (tag.variable, Fails (NotReal variable))
+    ∷ []
+
+-- a node by itself; the other tags hold nothing that is not real
 unfoldable pub nodeVerdict : List ℕ → Node → NodeVerdict
-nodeVerdict regions node =
-    cond (eqb (node .tag) 0) (addressRule (codeOf regions (node .first)))
-    (cond (eqb (node .tag) 3) (numberVerdict (node .second))
-    (cond (eqb (node .tag) 6) (Fails (NotReal variable)) Real))
+nodeVerdict regions node = caseOf (node .tag) (nodeVerdicts regions node) Real
 
 abbrev pub isFailure : NodeVerdict → Bool
 isFailure Real = false

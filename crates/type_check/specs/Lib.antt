@@ -5,4 +5,3 @@ pub mod Codes
 pub mod Frame
 pub mod Check
 pub mod Names
-pub mod Bench

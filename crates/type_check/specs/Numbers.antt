@@ -1,24 +1,6 @@
 -- 01: "two codes: kinds 0 to 3, 4 integer literal, 5 real literal, 6 imaginary, 7 variable, 8 absent, 9 real or integral, 10 integral, 11 bit".
+-- The codes 0 to 5 are named in words/specs/Kind.antt.
 use Prim.Native.Nat.{ℕ, _+_}
-
--- "Kinds: 0 BIT, 1 INTEGER, 2 OCTET, 3 REAL."
-abbrev pub bit : ℕ
-bit = 0
-
-abbrev pub integer : ℕ
-integer = 1
-
-abbrev pub octet : ℕ
-octet = 2
-
-abbrev pub real : ℕ
-real = 3
-
-abbrev pub integerLiteral : ℕ
-integerLiteral = 4
-
-abbrev pub realLiteral : ℕ
-realLiteral = 5
 
 abbrev pub imaginary : ℕ
 imaginary = 6

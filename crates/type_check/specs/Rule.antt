@@ -1,12 +1,15 @@
 -- 01, "Type check": "The verdict turns on family, operator and operand kinds, in this order of looks".
 -- The rule of a row as a function of its family, its operator and its operands' codes:
--- 0 to 3 is a declared name's kind, 4 an integer literal, 5 a real literal, 8 an undeclared name.
+-- a declared name's kind, a literal's code, or `absent` for an undeclared name.
 use Prim.Native.Nat.{ℕ}
 use mathlib.Core.Bool.{Bool, not, cond, _||_, _&&_}
 use mathlib.Core.List.{List, [], _∷_}
-use lib.ListN.{getD}
 use lib.Dec.{eqb, ltb}
-use Rattle.type_check.specs.Numbers.{bit, integer, octet, real, integerLiteral, realLiteral, absent, realOrIntegral, integral, bitOnly, firstSpot, secondSpot, sourceSpot, storeSourceSpot}
+use Rattle.words.specs.Kind.{bit, integer, octet, real, integerLiteral, realLiteral}
+use Rattle.tables.specs.Cases.{caseOf}
+use Rattle.tables.specs.Family as family
+use Rattle.tables.specs.Operator as operator
+use Rattle.type_check.specs.Numbers.{absent, realOrIntegral, integral, bitOnly, firstSpot, secondSpot, sourceSpot, storeSourceSpot}
 use Rattle.type_check.specs.Judgement.{Judgement, pass, undefinedMemoryReference, dataTypeMismatch, operatorOperandMismatch, judge}
 
 abbrev pub undeclared : ℕ → Bool
@@ -83,9 +86,9 @@ logicRule destination source =
     ∷ [])
     (logicSource source)
 
--- operators: 0 NEG, 1 NOT
+-- else NOT
 abbrev pub isNeg : ℕ → Bool
-isNeg operator = eqb operator 0
+isNeg which = eqb which operator.neg
 
 -- "Unary: declared; NOT of REAL, NEG of BIT or OCTET is 4."
 unfoldable pub unaryRule : ℕ → ℕ → Judgement
@@ -150,19 +153,18 @@ storeRule destination offset source =
     ∷ [])
     (storeSource destination source)
 
--- the families' rules, from family 0
-abbrev pub rules : ℕ → ℕ → ℕ → ℕ → List Judgement
+abbrev pub rules : ℕ → ℕ → ℕ → ℕ → List (ℕ × Judgement)
 rules operator first second source =
-    arithmeticRule first source
-    ∷ comparisonRule first second source
-    ∷ logicRule first source
-    ∷ unaryRule operator first
-    ∷ moveRule first source
-    ∷ exchangeRule first second
-    ∷ loadRule first second source
-    ∷ storeRule first second source
+    (family.arithmetic, arithmeticRule first source)
+    ∷ (family.comparison, comparisonRule first second source)
+    ∷ (family.binaryLogic, logicRule first source)
+    ∷ (family.unary, unaryRule operator first)
+    ∷ (family.move, moveRule first source)
+    ∷ (family.exchange, exchangeRule first second)
+    ∷ (family.load, loadRule first second source)
+    ∷ (family.store, storeRule first second source)
     ∷ []
 
--- "Families 9 and 10 pass." A frame, family 8, is judged by its nodes (Frame.antt).
+-- "Families 9 and 10 pass." A frame is judged by its nodes (Frame.antt).
 unfoldable pub ruleOf : ℕ → ℕ → ℕ → ℕ → ℕ → Judgement
-ruleOf family operator first second source = getD (rules operator first second source) family pass
+ruleOf family operator first second source = caseOf family (rules operator first second source) pass

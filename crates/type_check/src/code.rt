@@ -1,8 +1,4 @@
-// 01's codes and spots in a type error, as specs/Numbers.antt names them. The kinds are codes too.
-pub const INTEGER_LITERAL: u64 = 4;
-
-pub const REAL_LITERAL: u64 = 5;
-
+// 01's codes and spots in a type error, as specs/Numbers.antt names them. The kinds and the literals' codes are words'.
 pub const IMAGINARY: u64 = 6;
 
 pub const VARIABLE: u64 = 7;

@@ -14,6 +14,7 @@ use crate::error::undefined_memory_reference;
 use crate::rules::kind_at;
 use tables::lookup::Found;
 use tables::lookup::lookup_region;
+use tables::node_tag;
 use tables::rows::Instruction;
 use tables::rows::Node;
 use tables::rows::node_at;
@@ -60,20 +61,20 @@ fn check_number(imaginary: u64) -> NodeVerdict
 }
 
 // One node by itself; its children are rows of their own.
-pub fn should_be_real(regions: &[u64], node: Node) -> NodeVerdict
+fn should_be_real(regions: &[u64], node: Node) -> NodeVerdict
     ensures { λ r. ⌜ r ≡ nodeVerdict (now (regions .entry)) node ⌝ }
 {
     let tag = node.tag;
     match tag {
-        0 => check_address(regions, node.first),
-        3 => check_number(node.second),
-        6 => NodeVerdict::Fails(NodeError::NotReal(VARIABLE)),
+        node_tag::ADDRESS => check_address(regions, node.first),
+        node_tag::NUMBER => check_number(node.second),
+        node_tag::VARIABLE => NodeVerdict::Fails(NodeError::NotReal(VARIABLE)),
         _ => NodeVerdict::Real,
     }
 }
 
 // The first failing node of the `count` rows from `first` on: left before right is row order.
-pub fn check_tree(regions: &[u64], nodes: &[u64], first: usize, count: usize) -> TreeVerdict
+fn check_tree(regions: &[u64], nodes: &[u64], first: usize, count: usize) -> TreeVerdict
     requires { ⌜ first + count ≤ nodeRows (now nodes) ⌝ }
     ensures { λ r. ⌜ r ≡ treeVerdict (now (regions .entry)) (now (nodes .entry)) first count ⌝ }
 {

@@ -11,6 +11,7 @@ use crate::rules::type_check_load;
 use crate::rules::type_check_move;
 use crate::rules::type_check_store;
 use crate::rules::type_check_unary_logic;
+use tables::family;
 use tables::rows::INSTRUCTION_WIDTH;
 use tables::rows::Instruction;
 use tables::rows::instruction_at;
@@ -21,15 +22,15 @@ pub fn check_row(regions: &[u64], nodes: &[u64], row: u64, x: Instruction) -> Ve
 {
     let family = x.family;
     match family {
-        0 => type_check_arithmetic(regions, row, x),
-        1 => type_check_comparison(regions, row, x),
-        2 => type_check_binary_logic(regions, row, x),
-        3 => type_check_unary_logic(regions, row, x),
-        4 => type_check_move(regions, row, x),
-        5 => type_check_exchange(regions, row, x),
-        6 => type_check_load(regions, row, x),
-        7 => type_check_store(regions, row, x),
-        8 => check_frame(regions, nodes, row, x),
+        family::ARITHMETIC => type_check_arithmetic(regions, row, x),
+        family::COMPARISON => type_check_comparison(regions, row, x),
+        family::BINARY_LOGIC => type_check_binary_logic(regions, row, x),
+        family::UNARY => type_check_unary_logic(regions, row, x),
+        family::MOVE => type_check_move(regions, row, x),
+        family::EXCHANGE => type_check_exchange(regions, row, x),
+        family::LOAD => type_check_load(regions, row, x),
+        family::STORE => type_check_store(regions, row, x),
+        family::FRAME => check_frame(regions, nodes, row, x),
         _ => Verdict::Accepted,
     }
 }

@@ -1,4 +1,4 @@
-// The typing rules of families 0 to 7. A rule looks names up in 01's order; the first look that fails is the error.
+// The typing rules of the families but frames. A rule looks names up in 01's order; the first look that fails is the error.
 ghost use mathlib.Core.Path.{_≡_};
 ghost use Prim.Native.Nat.{_<_};
 ghost use Rattle.tables.specs.Rows.{regionRows, regionKind};
@@ -7,9 +7,7 @@ ghost use Rattle.type_check.specs.Rule.{arithmeticSource, arithmeticRule
 ghost use Rattle.type_check.specs.Codes.{kindCode, codeOf, firstCode, secondCode, referenceCode, operandCode};
 use crate::code::BIT_ONLY;
 use crate::code::FIRST;
-use crate::code::INTEGER_LITERAL;
 use crate::code::INTEGRAL;
-use crate::code::REAL_LITERAL;
 use crate::code::REAL_OR_INTEGRAL;
 use crate::code::SECOND;
 use crate::code::SOURCE;
@@ -20,11 +18,15 @@ use crate::error::operator_operand_mismatch;
 use crate::error::undefined_memory_reference;
 use tables::lookup::Found;
 use tables::lookup::lookup_region;
+use tables::operator;
 use tables::rows::Instruction;
+use tables::source;
 use words::kind::BIT;
 use words::kind::INTEGER;
+use words::kind::INTEGER_LITERAL;
 use words::kind::OCTET;
 use words::kind::REAL;
+use words::kind::REAL_LITERAL;
 
 // A declared region's kind. The loader leaves no word above REAL there.
 pub fn kind_at(regions: &[u64], region: usize) -> u64
@@ -67,12 +69,12 @@ pub fn type_check_arithmetic(regions: &[u64], row: u64, x: Instruction) -> Verdi
     let destination = kind_at(regions, region);
     let form = x.source_form;
     match form {
-        0 => match destination {
+        source::INTEGER_LITERAL => match destination {
             INTEGER => Verdict::Accepted,
             REAL => data_type_mismatch(row, FIRST, SOURCE, destination, INTEGER_LITERAL),
             _ => operator_operand_mismatch(row, FIRST, destination, REAL_OR_INTEGRAL),
         },
-        1 => match destination {
+        source::REAL_LITERAL => match destination {
             REAL => Verdict::Accepted,
             _ => data_type_mismatch(row, FIRST, SOURCE, destination, REAL_LITERAL),
         },
@@ -104,11 +106,11 @@ fn check_source(regions: &[u64], row: u64, spot: u64, kind: u64, x: Instruction)
 {
     let form = x.source_form;
     match form {
-        0 => match kind {
+        source::INTEGER_LITERAL => match kind {
             BIT..=OCTET => Verdict::Accepted,
             _ => data_type_mismatch(row, spot, SOURCE, kind, INTEGER_LITERAL),
         },
-        1 => match kind {
+        source::REAL_LITERAL => match kind {
             BIT..=OCTET => data_type_mismatch(row, spot, SOURCE, kind, REAL_LITERAL),
             _ => Verdict::Accepted,
         },
@@ -139,8 +141,13 @@ fn logic_source(regions: &[u64], row: u64, x: Instruction) -> Verdict
 {
     let form = x.source_form;
     match form {
-        0 => return Verdict::Accepted,
-        1 => return operator_operand_mismatch(row, SOURCE, REAL_LITERAL, INTEGRAL),
+        source::INTEGER_LITERAL => return Verdict::Accepted,
+        source::REAL_LITERAL => return operator_operand_mismatch(
+            row,
+            SOURCE,
+            REAL_LITERAL,
+            INTEGRAL,
+        ),
         _ => {}
     }
     let Found::At(region) = lookup_region(regions, x.source_first) else {
@@ -166,7 +173,7 @@ pub fn type_check_binary_logic(regions: &[u64], row: u64, x: Instruction) -> Ver
     }
 }
 
-// NEG is operator 0, NOT is 1.
+// NEG, else NOT.
 pub fn type_check_unary_logic(regions: &[u64], row: u64, x: Instruction) -> Verdict
     ensures { λ r. ⌜ r ≡ verdictAt row (unaryRule (x .operator) (firstCode (now (regions .entry)) x)) ⌝ }
 {
@@ -176,7 +183,7 @@ pub fn type_check_unary_logic(regions: &[u64], row: u64, x: Instruction) -> Verd
     let operand = kind_at(regions, region);
     let operator = x.operator;
     match operator {
-        0 => match operand {
+        operator::NEG => match operand {
             BIT | OCTET => operator_operand_mismatch(row, FIRST, operand, REAL_OR_INTEGRAL),
             _ => Verdict::Accepted,
         },
@@ -270,11 +277,11 @@ fn store_source(regions: &[u64], row: u64, destination: u64, x: Instruction) -> 
 {
     let form = x.source_form;
     match form {
-        0 => match destination {
+        source::INTEGER_LITERAL => match destination {
             BIT..=OCTET => Verdict::Accepted,
             _ => data_type_mismatch(row, SOURCE, FIRST, INTEGER_LITERAL, destination),
         },
-        1 => match destination {
+        source::REAL_LITERAL => match destination {
             BIT..=OCTET => data_type_mismatch(row, SOURCE, FIRST, REAL_LITERAL, destination),
             _ => Verdict::Accepted,
         },

@@ -1,9 +1,8 @@
 use mathlib.Core.Path.{refl}
 use borrow.Author.Needs.{needs}
+use Rattle.tables.specs.Cases.{caseOf}
 use Rattle.type_check.specs.Rule.{ruleOf}
-use Prim.Native.Nat.{zero-le}
 use Rattle.type_check.specs.Check.{verdictOf}
-use Rattle.type_check.proofs.CodeLaws.{past}
 use Rattle.type_check.proofs.CheckLaws.{family-judgement, frame-judgement, other-judgement}
 use Rattle.type_check.proofs.program.check_row.Statement.{statement}
 use Rattle.type_check.proofs.program.check_row.Tie as tie
@@ -36,35 +35,35 @@ check-frame-requires : tie.Need-check-frame-requires
 check-frame-requires c κs = c .before .before .before .pre .inside (c .match .keys9)
 
 returns : tie.Need-returns
-unfolding verdictOf ruleOf
+unfolding verdictOf ruleOf caseOf
 returns c = rw (family-judgement _ _ (c .before .before .before .before .args .x) 0 (c .before .match .keys1) refl) (c .type-check-arithmetic .ensures)
 
 returns-2 : tie.Need-returns-2
-unfolding verdictOf ruleOf
+unfolding verdictOf ruleOf caseOf
 returns-2 c = rw (family-judgement _ _ (c .before .before .before .before .args .x) 1 (c .before .match .keys2) refl) (c .type-check-comparison .ensures)
 
 returns-3 : tie.Need-returns-3
-unfolding verdictOf ruleOf
+unfolding verdictOf ruleOf caseOf
 returns-3 c = rw (family-judgement _ _ (c .before .before .before .before .args .x) 2 (c .before .match .keys3) refl) (c .type-check-binary-logic .ensures)
 
 returns-4 : tie.Need-returns-4
-unfolding verdictOf ruleOf
+unfolding verdictOf ruleOf caseOf
 returns-4 c = rw (family-judgement _ _ (c .before .before .before .before .args .x) 3 (c .before .match .keys4) refl) (c .type-check-unary-logic .ensures)
 
 returns-5 : tie.Need-returns-5
-unfolding verdictOf ruleOf
+unfolding verdictOf ruleOf caseOf
 returns-5 c = rw (family-judgement _ _ (c .before .before .before .before .args .x) 4 (c .before .match .keys5) refl) (c .type-check-move .ensures)
 
 returns-6 : tie.Need-returns-6
-unfolding verdictOf ruleOf
+unfolding verdictOf ruleOf caseOf
 returns-6 c = rw (family-judgement _ _ (c .before .before .before .before .args .x) 5 (c .before .match .keys6) refl) (c .type-check-exchange .ensures)
 
 returns-7 : tie.Need-returns-7
-unfolding verdictOf ruleOf
+unfolding verdictOf ruleOf caseOf
 returns-7 c = rw (family-judgement _ _ (c .before .before .before .before .args .x) 6 (c .before .match .keys7) refl) (c .type-check-load .ensures)
 
 returns-8 : tie.Need-returns-8
-unfolding verdictOf ruleOf
+unfolding verdictOf ruleOf caseOf
 returns-8 c = rw (family-judgement _ _ (c .before .before .before .before .args .x) 7 (c .before .match .keys8) refl) (c .type-check-store .ensures)
 
 returns-9 : tie.Need-returns-9
@@ -73,7 +72,7 @@ returns-9 c = rw (frame-judgement _ _ (c .before .before .before .before .args .
 
 returns-10 : tie.Need-returns-10
 unfolding verdictOf
-returns-10 c = rw (other-judgement _ _ (c .before .before .before .args .x) (past 8 (past 7 (past 6 (past 5 (past 4 (past 3 (past 2 (past 1 (past 0 zero-le (c .match .rest .0 .0 .0 .0 .0 .0 .0 .0 .1)) (c .match .rest .0 .0 .0 .0 .0 .0 .0 .1)) (c .match .rest .0 .0 .0 .0 .0 .0 .1)) (c .match .rest .0 .0 .0 .0 .0 .1)) (c .match .rest .0 .0 .0 .0 .1)) (c .match .rest .0 .0 .0 .1)) (c .match .rest .0 .0 .1)) (c .match .rest .0 .1)) (c .match .rest .1)))
+returns-10 c = rw (other-judgement _ _ (c .before .before .before .args .x) (c .match .rest .1) (c .match .rest .0))
 
 pub check-row-spec : {M : Type 1} → statement M
 check-row-spec =

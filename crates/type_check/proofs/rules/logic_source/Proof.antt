@@ -1,6 +1,7 @@
 use mathlib.Core.Path.{refl, sym, _∙_}
 use borrow.Author.Tests.{eq-eqb, ne-eqb, lt-ltb, le-ltb}
 use borrow.Author.Needs.{needs}
+use Rattle.tables.specs.Cases.{caseOf}
 use Rattle.tables.proofs.LookupLaws.{lookup-within}
 use Rattle.type_check.specs.Rule.{logicSource}
 use Rattle.type_check.specs.Codes.{operandCode}
@@ -12,14 +13,14 @@ seen : (c : tie.After-kind-at) → let a = c .before .before .before .before .be
 seen c = kind-read _ _ (c .before .before .before .before .lookup-region .ensures) (c .before .before .region .given .1) (c .kind-at .ensures)
 
 returns : tie.Need-returns
-unfolding logicSource operandCode
+unfolding logicSource operandCode caseOf
 returns c = rw (eq-eqb _ _ (c .match .keys1))
 
 operator-operand-mismatch-requires : tie.Need-operator-operand-mismatch-requires
 operator-operand-mismatch-requires c κs = search needs
 
 returns-2 : tie.Need-returns-2
-unfolding logicSource operandCode
+unfolding logicSource operandCode caseOf
 returns-2 c = rw (isnt 0 (c .before .match .keys2) refl, eq-eqb _ _ (c .before .match .keys2)) (c .operator-operand-mismatch .ensures)
 
 lookup-region-requires : tie.Need-lookup-region-requires
@@ -35,7 +36,7 @@ undefined-memory-reference-requires : tie.Need-undefined-memory-reference-requir
 undefined-memory-reference-requires c κs = search needs
 
 returns-3 : tie.Need-returns-3
-unfolding logicSource operandCode
+unfolding logicSource operandCode caseOf
 returns-3 c = rw (ne-eqb _ _ (c .before .before .before .before .match .rest .0 .1), ne-eqb _ _ (c .before .before .before .before .match .rest .1), code-none _ _ (c .before .before .before .lookup-region .ensures) (c .before .enum-told .given .1)) (c .undefined-memory-reference .ensures)
 
 kind-at-requires : tie.Need-kind-at-requires
@@ -45,11 +46,11 @@ operator-operand-mismatch-requires-2 : tie.Need-operator-operand-mismatch-requir
 operator-operand-mismatch-requires-2 c κs = search needs
 
 returns-4 : tie.Need-returns-4
-unfolding logicSource operandCode
+unfolding logicSource operandCode caseOf
 returns-4 c = rw (ne-eqb _ _ (c .before .before .before .before .before .before .match .rest .0 .1), ne-eqb _ _ (c .before .before .before .before .before .before .match .rest .1), seen (c .before) .code, seen (c .before) .declared, lt-ltb _ _ (c .if1 .taken))
 
 returns-5 : tie.Need-returns-5
-unfolding logicSource operandCode
+unfolding logicSource operandCode caseOf
 returns-5 c = rw (ne-eqb _ _ (c .before .before .before .before .before .before .before .match .rest .0 .1), ne-eqb _ _ (c .before .before .before .before .before .before .before .match .rest .1), seen (c .before .before) .code, seen (c .before .before) .declared, le-ltb _ _ (c .before .if1 .left), no-kind 0 (seen (c .before .before) .below)) (c .operator-operand-mismatch2 .ensures)
 
 pub logic-source-spec : {M : Type 1} → statement M
