@@ -1,6 +1,6 @@
 -- Whatever the cells hold, a row that is no CALL writes to cells that are there, as many as its family has changes. Assumes nothing.
 use Prim.Native.Nat.{ℕ, zero, suc, _<_}
-use mathlib.Core.Bool.{true, not}
+use mathlib.Core.Bool.{true}
 use mathlib.Core.List.{List, [], _∷_}
 use mathlib.Core.Path.{_≡_, refl}
 use lib.ListN.{length, getD}
@@ -17,7 +17,7 @@ use Rattle.operands.specs.Address.{indexedOf, namesOf, addressesOf}
 use Rattle.operands.specs.Cells.{cellKind, readOf, sourceOf, offsetOf}
 use Rattle.operators.specs.Operators.{integerLiteral, realLiteral, arithmeticKinds, arithmeticResult, comparisonKinds, logicKinds, logicResult, unaryKinds}
 use Rattle.machine.specs.Families.{putInto, arithmeticOf, comparisonOf, logicOf, unaryOf, moveOf, exchangeOf, loadOf, storeOf, familyOf}
-use Rattle.machine.specs.Outcome.{isOther, plainOutcome}
+use Rattle.machine.specs.Outcome.{plainOutcome}
 use Rattle.operands.specs.declared.cell.Value.{Value}
 use Rattle.operands.specs.declared.address.NamedRegions.{NamedRegions}
 use Rattle.operands.specs.declared.address.Addresses.{Addresses}
@@ -109,9 +109,8 @@ module _ (regions cells : List ℕ) where
     written : Written regions (changesOf (x .family)) ws
     unfolding plainOutcome
     written =
-        let (o, e₁) = passed (not (isOther x)) _ _ _ e in
-        let (l, e₂) = passed (eqb (length reply) 0) _ _ _ e₁ in
-        let b = bound (namesOf regions x) _ ws e₂ in
+        let (l, e₁) = passed (eqb (length reply) 0) _ _ _ e in
+        let b = bound (namesOf regions x) _ ws e₁ in
         let c = bound (addressesOf regions x (b .value)) _ ws (b .rest) in
         let g = names-within regions x (b .given) in
         gives ws (family-within x (b .value) (c .value) (x .family) refl (targets x (b .value) (c .value) g (addresses-within regions x g (c .given)))) (c .rest)

@@ -6,6 +6,8 @@ use lib.ListN.{length}
 use lib.Dec.{eqb}
 use Rattle.tables.specs.Refusal.{otherInstruction, unfitReply}
 use Rattle.tables.specs.Outcome.{Outcome, ok, refuse, _>>=_, _>>_, need}
+use Rattle.tables.specs.Family as family
+use Rattle.tables.specs.Operator as operator
 use Rattle.tables.specs.Tables.{Tables}
 use Rattle.tables.specs.Rows.{instructionAt}
 use Rattle.tables.specs.declared.rows.Instruction.{Instruction}
@@ -17,25 +19,25 @@ use Rattle.machine.specs.declared.outcome.RowOutcome.{RowOutcome}
 use Rattle.machine.specs.declared.outcome.RowOutcome.the-variants.{Refused, NoWrites, One, Two}
 
 abbrev pub isCall : Instruction → Bool
-isCall x = eqb (x .family) 9
+isCall x = eqb (x .family) family.call
 
--- "9 instruction 10/1"
+-- "10: operator 0 is NOP, 1 any other instruction"
 abbrev pub isOther : Instruction → Bool
-isOther x = eqb (x .family) 10 && eqb (x .operator) 1
+isOther x = eqb (x .family) family.other && eqb (x .operator) operator.anyOther
 
--- A row that is no CALL. 01, Order: "9; .. else 17, 18 names, 14 written indices", and the families' looks.
+-- A row that is no CALL. 01, Order: "else 17, 18 names, 14 written indices", and the families' looks.
 unfoldable pub plainOutcome : List ℕ → List ℕ → Instruction → List ℕ → Outcome (List Write)
 plainOutcome regions cells x reply = do
-  need (not (isOther x)) otherInstruction
   need (eqb (length reply) 0) unfitReply
   n ← namesOf regions x
   a ← addressesOf regions x n
   familyOf regions cells x n a
 
--- any row
+-- Any row. 01, Order: "9; a call: 6, 7, 8 (number only), 14 over scalar references, 17, ..; else 17, 18 names, .."
 unfoldable pub outcomeOf : Tables → List ℕ → Instruction → List ℕ → Outcome (List Write)
-outcomeOf t cells x reply =
-    cond (isCall x) (callOutcome (t .regions) (t .externs) (t .parameters) (t .arguments) x reply) (plainOutcome (t .regions) cells x reply)
+outcomeOf t cells x reply = do
+  need (not (isOther x)) otherInstruction
+  cond (isCall x) (callOutcome (t .regions) (t .externs) (t .parameters) (t .arguments) x reply) (plainOutcome (t .regions) cells x reply)
 
 -- the row of that number
 unfoldable pub outcomeAt : Tables → List ℕ → ℕ → List ℕ → Outcome (List Write)

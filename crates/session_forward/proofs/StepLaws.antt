@@ -13,7 +13,6 @@ use Rattle.tables.specs.Rows.{instructionRows, instructionAt}
 use Rattle.loader.specs.Instruction as I
 use Rattle.tables.specs.declared.rows.Instruction.{Instruction}
 use Rattle.loader.proofs.Loaded.{Loaded, loaded, both, passed, few-instructions, instruction-allowed, call-arguments, extern-parameters}
-use Rattle.extern_call.specs.Call.{CallRanges}
 use Rattle.journal.specs.declared.cells.Write.{Write}
 use Rattle.journal.specs.Each.{Each, none, also}
 use Rattle.journal.specs.declared.position.Position.{Position}
@@ -22,12 +21,11 @@ use Rattle.journal.specs.Cells.{applied}
 use Rattle.journal.specs.Entries.{journaled}
 use Rattle.machine.specs.Outcome.{outcomeOf, outcomeAt}
 use Rattle.operands.specs.Reach.{There, Layout}
-use Rattle.machine.specs.Reach.{Opened}
 use Rattle.operands.proofs.Reaches.{in-cells}
 use Rattle.machine.proofs.WritesLaws.{Within}
 use Rattle.session.specs.Prepare.{entriesOf, Ready}
 use Rattle.session.specs.Forward.{rowOf, positionFits, roomFor, stepLook, rowLook, left, stepped}
-use Rattle.session_forward.specs.Step.{currentRow, rowLeaves, Placed, Steppable}
+use Rattle.session_forward.specs.Step.{currentRow, rowLeaves, Steppable, RowReady}
 use Rattle.session.specs.declared.answer.StepAnswer.the-variants.{Moved, Refused}
 use Rattle.session.proofs.PositionLaws.{fits-used}
 
@@ -92,14 +90,12 @@ module _ {regions externs parameters arguments instructions cells : List ℕ} {j
   here : Current instructions (entriesOf journal) p x
   here = current instructions (entriesOf journal) p e
 
-  pub row-placed : Placed journal p
-  row-placed = record { done = omega (arith, s .rows, here .there); used = here .used; short = s .short }
-
-  pub row-opened : Opened regions cells x
-  row-opened = record { layout = s .layout; form = rw (here .is) (s .form (rowOf p) (here .there)) }
-
-  pub row-ranges : x .family ≡ 9 → CallRanges externs parameters arguments x
-  row-ranges f = rw (here .is) (s .call (rowOf p) (here .there) (rw (here .is) at f))
+  pub row-ready : RowReady regions externs parameters arguments x cells journal p
+  row-ready = record {
+    opened = record { layout = s .layout; form = rw (here .is) (s .form (rowOf p) (here .there)) };
+    call = λ f. rw (here .is) (s .call (rowOf p) (here .there) (rw (here .is) at f));
+    placed = record { done = omega (arith, s .rows, here .there); used = here .used; short = s .short };
+  }
 
 -- the cells of a plain row's writes are there
 pub one-there : {regions cells : List ℕ} {w : Write} → Layout regions cells → Each (Within regions) (w ∷ []) → There cells (w .cell)

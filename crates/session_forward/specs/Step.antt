@@ -7,6 +7,7 @@ use lib.ListN.{length}
 use lib.Dec.{ltb}
 use Rattle.tables.specs.Refusal.{foreignPosition, atEnd}
 use Rattle.tables.specs.Outcome.{Outcome, ok, refuse, _>>=_, _>>_, need}
+use Rattle.tables.specs.Family as family
 use Rattle.tables.specs.Rows.{instructionRows, instructionAt}
 use Rattle.loader.specs.Instruction.{formAllowed}
 use Rattle.tables.specs.declared.rows.Instruction.{Instruction}
@@ -17,6 +18,7 @@ use Rattle.journal.specs.declared.position.Position.{Position}
 use Rattle.call_reply.specs.Call.{replyRows}
 use Rattle.operands.specs.Reach.{Layout}
 use Rattle.call_reply.specs.Reach.{Replied}
+use Rattle.machine.specs.Reach.{Opened}
 use Rattle.session.specs.Prepare.{entriesOf}
 use Rattle.session.specs.Forward.{rowOf, positionFits, roomFor, Left, stepped}
 use Rattle.session_forward.specs.declared.step.NextRow.{NextRow}
@@ -52,9 +54,15 @@ pub record Steppable (regions externs parameters arguments instructions cells : 
   pub rows : instructionRows instructions ≤ 512
   pub form : (k : ℕ) → k < instructionRows instructions
       → formAllowed (instructionAt instructions k .family) (instructionAt instructions k .«source_form») ≡ true
-  pub call : (k : ℕ) → k < instructionRows instructions → instructionAt instructions k .family ≡ 9
+  pub call : (k : ℕ) → k < instructionRows instructions → instructionAt instructions k .family ≡ family.call
       → CallRanges externs parameters arguments (instructionAt instructions k)
   pub short : entriesOf journal ≤ 2048
+
+-- the row that 19 and 11 let pass
+pub record RowReady (regions externs parameters arguments : List ℕ) (x : Instruction) (cells : List ℕ) (journal : ℕ) (p : Position) : Type 0 where
+  pub opened : Opened regions cells x
+  pub call : x .family ≡ family.call → CallRanges externs parameters arguments x
+  pub placed : Placed journal p
 
 -- a reply that was judged, on the cells of the regions
 pub record Replying (regions parameters arguments : List ℕ) (call : Call) (cells reply : List ℕ) : Type 0 where

@@ -6,6 +6,7 @@ ghost use Rattle.tables.specs.Look.{lookOutcome};
 ghost use Rattle.session_open.specs.Open.{callTables, CallsInside, noOther, callLook, callsLook, programLook};
 use extern_call::call::CallAnswer;
 use extern_call::call::resolves;
+use machine::outcome::is_other;
 use tables::family;
 use tables::look::Look;
 use tables::refusal::OTHER_INSTRUCTION;
@@ -19,7 +20,7 @@ fn no_other(instructions: &[u64]) -> bool
     let mut row = 0;
     while row < rows {
         let x = instruction_at(instructions, row);
-        if (x.family == family::OTHER) & (x.operator == 1) {
+        if is_other(x) {
             return false;
         }
         row += 1;

@@ -1,6 +1,6 @@
 -- How many changes a row makes, whatever the cells hold: by its family alone, or in a CALL by its reply. Assumes nothing.
 use Prim.Native.Nat.{ℕ, _%_, _≤_}
-use mathlib.Core.Bool.{Bool, true, false, cond}
+use mathlib.Core.Bool.{Bool, true, false, not, cond}
 use mathlib.Core.List.{List}
 use mathlib.Core.Path.{_≡_, ap, sym, _∙_}
 use lib.Dec.{eqb}
@@ -9,10 +9,10 @@ use borrow.Author.Tests.{leb-true}
 use Rattle.tables.specs.Outcome.{ok}
 use Rattle.tables.specs.Tables.{Tables}
 use Rattle.tables.specs.declared.rows.Instruction.{Instruction}
-use Rattle.loader.proofs.Loaded.{both}
+use Rattle.loader.proofs.Loaded.{both, passed}
 use Rattle.journal.specs.declared.cells.Write.{Write}
 use Rattle.call_reply.specs.Call.{replyRows, replyLengthFits, replyFits, replyWrites, callJudged, callOutcome}
-use Rattle.machine.specs.Outcome.{isCall, plainOutcome, outcomeOf}
+use Rattle.machine.specs.Outcome.{isCall, isOther, plainOutcome, outcomeOf}
 use Rattle.operands.proofs.Binds.{bound}
 use Rattle.call_reply.proofs.ReplyLaws.{judged-ok, reply-writes-length}
 use Rattle.machine.proofs.WritesLaws.{changesOf, writes-count}
@@ -36,7 +36,7 @@ module _ (t : Tables) (x : Instruction) (reply : List ℕ) {ws : List Write} whe
 
   pub outcome-count : (cells : List ℕ) → outcomeOf t cells x reply ≡ ok ws → length ws ≡ changesIn x reply
   unfolding outcomeOf
-  outcome-count cells e = at (isCall x) e
+  outcome-count cells e = at (isCall x) (passed (not (isOther x)) _ _ _ e .1)
     where
       at : (c : Bool) → cond c (callOutcome (t .regions) (t .externs) (t .parameters) (t .arguments) x reply) (plainOutcome (t .regions) cells x reply) ≡ ok ws
           → length ws ≡ cond c (replyRows reply) (changesOf (x .family))

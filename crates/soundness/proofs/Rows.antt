@@ -1,6 +1,6 @@
 -- A row that is no CALL and passes the type check, on cells of the declared kinds: no 18, and every write keeps the kinds. Assumes nothing.
 use Prim.Native.Nat.{ℕ, zero, suc, _^_, _<_}
-use mathlib.Core.Bool.{true, false, not, false≢true}
+use mathlib.Core.Bool.{true, false, false≢true}
 use mathlib.Core.List.{List}
 use mathlib.Core.Path.{_≡_, refl, sym, _∙_}
 use mathlib.Core.Logic.{inl}
@@ -9,7 +9,7 @@ use lib.ListN.{length}
 use lib.Dec.{eqb}
 use borrow.Author.Tests.{ltb-true}
 use Rattle.tables.specs.Cases.{caseOf}
-use Rattle.tables.specs.Refusal.{otherInstruction, unfitReply}
+use Rattle.tables.specs.Refusal.{unfitReply}
 use Rattle.loader.specs.Instruction.{operatorsOf, formAllowed}
 use Rattle.tables.specs.declared.rows.Instruction.{Instruction}
 use Rattle.type_check.specs.Judgement.{pass}
@@ -20,7 +20,7 @@ use Rattle.journal.specs.Each.{none}
 use Rattle.operands.specs.Address.{namesSource}
 use Rattle.operands.specs.Cells.{sourceOf}
 use Rattle.machine.specs.Families.{familyOf}
-use Rattle.machine.specs.Outcome.{isOther, plainOutcome}
+use Rattle.machine.specs.Outcome.{plainOutcome}
 use Rattle.operands.specs.declared.address.NamedRegions.{NamedRegions}
 use Rattle.operands.specs.declared.address.Addresses.{Addresses}
 use Rattle.machine.proofs.Ends.{Ends, Ruled, fine, bind, tested}
@@ -137,10 +137,10 @@ module _ {regions cells : List ℕ} (typed : Typed regions cells) (x : Instructi
   unfolding rowRule
   rule l = rw (source-is regions x (k .form)) at (k .rule l)
 
-  -- "9; .. else 17, 18 names, 14 written indices", and the families' looks
+  -- "17, 18 names, 14 written indices", and the families' looks
   pub plain-sound : (reply : List ℕ) → Keeps regions (plainOutcome regions cells x reply)
   unfolding plainOutcome
   plain-sound reply =
       let r = ready (x .family) refl rule in
-      tested otherInstruction (not (isOther x)) (omega arith) (λ o. tested unfitReply (eqb (length reply) 0) (omega arith) (λ l.
-      bind (names-ends x (k .kinds) (r .0)) (λ n g. bind (addresses-ends x n g) (λ a p. r .1 n a p))))
+      tested unfitReply (eqb (length reply) 0) (omega arith) (λ l.
+      bind (names-ends x (k .kinds) (r .0)) (λ n g. bind (addresses-ends x n g) (λ a p. r .1 n a p)))

@@ -1,25 +1,25 @@
 -- The theorem: on cells of the declared kinds, no row of accepted tables is refused with 18, and its writes are good. Assumes nothing.
 use Prim.Native.Nat.{ℕ, _+_, _*_, _<_}
-use mathlib.Core.Bool.{Bool, true, false, cond}
+use mathlib.Core.Bool.{Bool, true, false, not, cond}
 use mathlib.Core.List.{List}
 use mathlib.Core.Path.{_≡_, refl}
 use native.Mathlib.Omega.{arith}
 use lib.Dec.{ltb}
 use borrow.Author.Tests.{ltb-true}
-use Rattle.tables.specs.Refusal.{noRule}
+use Rattle.tables.specs.Refusal.{noRule, otherInstruction}
 use Rattle.tables.specs.Outcome.{Outcome, ok, refuse}
 use Rattle.tables.specs.Tables.{Tables}
 use Rattle.tables.specs.Rows.{instructionRows, instructionAt}
 use Rattle.loader.specs.Instruction.{operatorsOf, formAllowed, instructionAllowed}
 use Rattle.tables.specs.declared.rows.Instruction.{Instruction}
-use Rattle.loader.proofs.Loaded.{Loaded, loaded, both, region-kind, instruction-allowed}
+use Rattle.loader.proofs.Loaded.{Loaded, loaded, both, passed, region-kind, instruction-allowed}
 use Rattle.type_check.proofs.CheckLaws.{rule-passes}
 use Rattle.journal.specs.declared.cells.Write.{Write}
 use Rattle.journal.specs.Each.{Each}
 use Rattle.journal.proofs.CellsLaws.{each-map}
 use Rattle.call_reply.specs.Call.{callOutcome}
-use Rattle.machine.specs.Outcome.{isCall, plainOutcome, outcomeOf, outcomeAt}
-use Rattle.machine.proofs.Ends.{gives, no-18}
+use Rattle.machine.specs.Outcome.{isCall, isOther, plainOutcome, outcomeOf, outcomeAt}
+use Rattle.machine.proofs.Ends.{Ends, Ruled, tested, weaken, gives, no-18}
 use Rattle.soundness.specs.Sound.{Checked, Typed, GoodWrite, Sound}
 use Rattle.soundness.proofs.Regions.{KindsAllowed}
 use Rattle.soundness.proofs.Zeros.{zeros-typed}
@@ -70,17 +70,18 @@ module _ (t : Tables) (checked : Checked t) where
     plain-ends : Keeps (t .regions) plain
     plain-ends = plain-sound typed x (accepted row h) reply
 
+    -- 9 is no 18
     row-ruled : outcomeAt t cells row reply ≡ refuse noRule → ⊥
     unfolding outcomeAt outcomeOf
-    row-ruled e = at (isCall x) e
+    row-ruled e = no-18 (tested {R = Ruled} {Q = λ ws. Unit {0}} otherInstruction (not (isOther x)) (omega arith) (λ o. ends (isCall x))) e
       where
-        at : (c : Bool) → cond c called plain ≡ refuse noRule → ⊥
-        at true e = no-18 (call-ends (t .regions) (t .externs) (t .parameters) (t .arguments) x reply) e
-        at false e = no-18 plain-ends e
+        ends : (c : Bool) → Ends Ruled (λ ws. Unit {0}) (cond c called plain)
+        ends true = call-ends (t .regions) (t .externs) (t .parameters) (t .arguments) x reply
+        ends false = weaken (λ ws k. tt) plain-ends
 
     row-good : (ws : List Write) → outcomeAt t cells row reply ≡ ok ws → Each (GoodWrite t x) ws
     unfolding outcomeAt outcomeOf
-    row-good ws e = at (isCall x) refl e
+    row-good ws e = at (isCall x) refl (passed (not (isOther x)) _ _ _ e .1)
       where
         at : (c : Bool) → isCall x ≡ c → cond c called plain ≡ ok ws → Each (GoodWrite t x) ws
         at true q e = call-good t x kinds reply ws e

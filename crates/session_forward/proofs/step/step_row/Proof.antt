@@ -1,13 +1,35 @@
-use borrow.Author.Tests.{eq-eqb, ne-eqb}
-use Rattle.tables.specs.Outcome.{seen}
-use Rattle.tables.specs.Tables.{tablesOf}
-use Rattle.machine.specs.Outcome.{outcomeOf}
-use Rattle.session.specs.Forward.{stepped}
-use Rattle.session_forward.specs.Step.{nextOutcome, rowLeaves}
-use Rattle.session_forward.proofs.StepLaws.{row-refused, row-taken, row-placed, row-opened, row-ranges}
+use mathlib.Core.List.{List}
+use Prim.Native.Nat.{ℕ}
+use mathlib.Core.Path.{_≡_}
+use lib.ListN.{length}
 use borrow.Author.Needs.{needs}
+use Rattle.tables.specs.Outcome.{ok, seen}
+use Rattle.tables.specs.Tables.{Tables, tablesOf}
+use Rattle.session.specs.Prepare.{entriesOf}
+use Rattle.session.specs.Forward.{stepped}
+use Rattle.session_forward.specs.Step.{currentRow, nextOutcome, rowLeaves}
+use Rattle.session_forward.proofs.StepLaws.{row-refused, row-taken, row-ready}
 use Rattle.session_forward.proofs.step.step_row.Statement.{statement}
 use Rattle.session_forward.proofs.step.step_row.Tie as tie
+
+-- ---- the places: 19 and 11 were looked at, the row is there
+
+abbrev lent : tie.After-slice-known2 → tie.Start
+lent s = s .before .before .before .before .before .before .before
+
+abbrev entry : tie.After-next-row → tie.Start
+entry n = lent (n .before .before)
+
+abbrev looked : tie.After-next2 → tie.After-next-row
+looked n = n .before .before
+
+abbrev tables : tie.Start → List ℕ → Tables
+tables s nodes = tablesOf (s .args .regions .now) (s .args .externs .now) (s .args .parameters .now) nodes (s .args .arguments .now) (s .args .instructions .now)
+
+row : (n : tie.After-next2) → currentRow (entry (looked n) .args .instructions .now) (entriesOf (length (entry (looked n) .args .journal .now))) (entry (looked n) .args .p) ≡ ok (n .next2 .given .0 .0)
+row n = seen nextOutcome (looked n .next-row .ensures) (n .next2 .given .1)
+
+-- ---- the needs
 
 next-row-requires : tie.Need-next-row-requires
 next-row-requires c κs = search needs
@@ -18,11 +40,18 @@ enum-known-next c = search needs
 enum-known-next-2 : tie.Need-enum-known-next-2
 enum-known-next-2 c = search needs
 
-call-step-requires : tie.Need-call-step-requires
-call-step-requires c κs =
-    let start = c .before .before .before .before .before .before .before .before .before .before .before .before .before .before .before .before in
-    let e = seen nextOutcome (c .before .before .before .before .before .before .before .next-row .ensures) (c .before .before .before .before .before .next2 .given .1) in
-    (start .pre .layout, row-ranges (start .args .p) (start .pre) e (c .before .before .if1 .taken), row-placed (start .args .p) (start .pre) e)
+any-step-requires : tie.Need-any-step-requires
+any-step-requires c κs =
+    let n = c .before .before .before in
+    let s = entry (looked n) in
+    row-ready (s .args .p) (s .pre) (row n)
+
+returns : tie.Need-returns
+unfolding stepped
+returns c =
+    let n = c .before in
+    let s = entry (n .before .before) in
+    λ nodes. rw (row-refused (tables s nodes) (s .args .cells .now) _ (s .args .p) (s .args .reply .now) (seen nextOutcome (n .before .before .next-row .ensures) (n .next .given .1)))
 
 same-length : tie.Need-same-length
 same-length c = search needs
@@ -30,35 +59,13 @@ same-length c = search needs
 same-length-2 : tie.Need-same-length-2
 same-length-2 c = search needs
 
-returns : tie.Need-returns
-unfolding outcomeOf rowLeaves
-returns c =
-    let start = c .before .before .before .before .before .before .before .before .before .before .before .before .before .before .before .before .before .before .before .before .before in
-    λ nodes. rw (row-taken (tablesOf (start .args .regions .now) (start .args .externs .now) (start .args .parameters .now) nodes (start .args .arguments .now) (start .args .instructions .now)) (start .args .cells .now) _ (start .args .p) (start .args .reply .now) (seen nextOutcome (c .before .before .before .before .before .before .before .before .before .before .before .before .next-row .ensures) (c .before .before .before .before .before .before .before .before .before .before .next2 .given .1)), eq-eqb _ _ (c .before .before .before .before .before .before .before .if1 .taken)) (c .before .before .before .before .call-step .ensures)
-
-plain-step-requires : tie.Need-plain-step-requires
-plain-step-requires c κs =
-    let start = c .before .before .before .before .before .before .before .before .before .before .before .before .before .before .before .before in
-    let e = seen nextOutcome (c .before .before .before .before .before .before .before .next-row .ensures) (c .before .before .before .before .before .next2 .given .1) in
-    (row-opened (start .args .p) (start .pre) e, row-placed (start .args .p) (start .pre) e)
-
 returns-2 : tie.Need-returns-2
-unfolding stepped
+unfolding rowLeaves
 returns-2 c =
-    let start = c .before .before .before .before .before .before .before .before .before .before .before .before in
-    λ nodes. rw (row-refused (tablesOf (start .args .regions .now) (start .args .externs .now) (start .args .parameters .now) nodes (start .args .arguments .now) (start .args .instructions .now)) (start .args .cells .now) _ (start .args .p) (start .args .reply .now) (seen nextOutcome (c .before .before .before .next-row .ensures) (c .before .next .given .1)))
-
-same-length-3 : tie.Need-same-length-3
-same-length-3 c = search needs
-
-same-length-4 : tie.Need-same-length-4
-same-length-4 c = search needs
-
-returns-3 : tie.Need-returns-3
-unfolding outcomeOf rowLeaves
-returns-3 c =
-    let start = c .before .before .before .before .before .before .before .before .before .before .before .before .before .before .before .before .before .before .before .before .before in
-    λ nodes. rw (row-taken (tablesOf (start .args .regions .now) (start .args .externs .now) (start .args .parameters .now) nodes (start .args .arguments .now) (start .args .instructions .now)) (start .args .cells .now) _ (start .args .p) (start .args .reply .now) (seen nextOutcome (c .before .before .before .before .before .before .before .before .before .before .before .before .next-row .ensures) (c .before .before .before .before .before .before .before .before .before .before .next2 .given .1)), ne-eqb _ _ (c .before .before .before .before .before .before .before .if1 .left)) (c .before .before .before .before .plain-step .ensures)
+    let after = c .before .before .before .before in
+    let n = after .before .before .before .before in
+    let s = entry (looked n) in
+    λ nodes. rw (row-taken (tables s nodes) (s .args .cells .now) _ (s .args .p) (s .args .reply .now) (row n)) (after .any-step .ensures nodes (s .args .instructions .now))
 
 pub step-row-spec : {M : Type 1} → statement M
 step-row-spec =
@@ -67,12 +74,8 @@ step-row-spec =
     next-row-requires
     enum-known-next
     enum-known-next-2
-    call-step-requires
+    any-step-requires
+    returns
     same-length
     same-length-2
-    returns
-    plain-step-requires
-    returns-2
-    same-length-3
-    same-length-4
-    returns-3)
+    returns-2)

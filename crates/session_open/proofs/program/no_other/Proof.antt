@@ -24,9 +24,12 @@ loop-holds c = (refl, every-start _ _)
 instruction-at-requires : tie.Need-instruction-at-requires Inv-loop μ-loop
 instruction-at-requires c κs = search needs
 
+is-other-requires : tie.Need-is-other-requires Inv-loop μ-loop
+is-other-requires c κs = search needs
+
 returns : tie.Need-returns Inv-loop μ-loop
 unfolding noOther
-returns c = every-stop _ _ _ (c .before .before .before .before .before .loop .inv .1) (c .before .before .before .before .loop-test .taken) (ap (λ (x : Instruction). not (isOther x)) (sym (c .before .before .before .instruction-at .ensures)) ∙ ap not (c .if1 .taken))
+returns c = every-stop _ _ _ (c .before .before .before .before .loop .inv .1) (c .before .before .before .loop-test .taken) (ap (λ (x : Instruction). not (isOther x)) (sym (c .before .before .instruction-at .ensures)) ∙ ap not (sym (c .before .is-other .ensures) ∙ c .if1 .taken))
 
 add-row : tie.Need-add-row Inv-loop μ-loop
 add-row c = search needs
@@ -36,7 +39,7 @@ loop-less c = search needs
 
 loop-again : tie.Need-loop-again Inv-loop μ-loop
 unfolding noOther
-loop-again c = (c .before .before .before .before .before .loop .inv .0, every-turn _ _ _ (c .before .before .before .before .before .loop .inv .1) (c .before .before .before .before .loop-test .taken) (ap (λ (x : Instruction). not (isOther x)) (sym (c .before .before .before .instruction-at .ensures)) ∙ ap not (c .if1 .left)))
+loop-again c = (c .before .before .before .before .loop .inv .0, every-turn _ _ _ (c .before .before .before .before .loop .inv .1) (c .before .before .before .loop-test .taken) (ap (λ (x : Instruction). not (isOther x)) (sym (c .before .before .instruction-at .ensures)) ∙ ap not (sym (c .before .is-other .ensures) ∙ c .if1 .left)))
 
 returns-2 : tie.Need-returns-2 Inv-loop μ-loop
 unfolding noOther
@@ -50,6 +53,7 @@ no-other-spec =
     μ-loop
     loop-holds
     instruction-at-requires
+    is-other-requires
     returns
     add-row
     loop-less
