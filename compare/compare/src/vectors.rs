@@ -1,6 +1,6 @@
-//! The fixed list of quil-rs's answers that crates/cases_vectors replays: a sample of every set, a question a line.
+//! The fixed list of quil-rs's answers that crates/cases_calls replays (its cases/quil_rs.py asks it): a sample of every set, a question a line.
 //!
-//! A line is words in hexadecimal. A list is its length, then its words.
+//! A line is words in hexadecimal. A list is its length, then its words; of a table each row has its first LISTED words.
 //!   call (1 check, 2 resolve, 3 access, 4 memory_references), the six tables as lists, then
 //!   1: number, the error's six words or six zeros
 //!   2: row, room, number, count, the written words as a list
@@ -16,12 +16,15 @@ use crate::{
 use std::io::Write;
 use tables::{Answer, Query, Tables};
 
-/// The replaying program lends lists of this many words.
+/// No question lends a longer list.
 const MOST: usize = 256;
 
 /// Larger programs are left to the comparison itself, so that the list stays small.
 const LARGEST: usize = 80;
 const SEED: u64 = 4;
+
+/// Words of a row in the list, of each table: those that quil-rs has. A table may have more to a row, which are 0 there.
+const LISTED: [usize; 6] = [3, 4, 5, 3, 3, 9];
 
 pub fn write() -> bool {
     let mut list = List { text: header(), ..List::default() };
@@ -38,7 +41,7 @@ pub fn write() -> bool {
 
 fn header() -> String {
     "# quil-rs's answers at 5a4668c218, as compare/compare/src/vectors.rs lays them out.\n\
-     # Made by: compare/run --vectors > crates/cases_vectors/data/answers\n"
+     # Made by: compare/run --vectors > crates/cases_calls/quil-rs.answers\n"
         .to_string()
 }
 
@@ -82,8 +85,9 @@ impl List {
 
     fn line(&mut self, tables: &Tables, query: Query, answer: &Answer) {
         let mut words = vec![call(query)];
-        for (_, _, table) in tables.in_order() {
-            push_list(&mut words, table);
+        for ((_, width, table), listed) in tables.in_order().into_iter().zip(LISTED) {
+            let rows: Vec<u64> = table.chunks(width).flat_map(|row| &row[..listed]).copied().collect();
+            push_list(&mut words, &rows);
         }
         match query {
             Query::Check => {

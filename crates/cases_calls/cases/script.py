@@ -1,0 +1,162 @@
+"""A script as it is written, with the answers that the model gives to its calls."""
+from rules import kept, session
+from rules.outcome import Refused
+from rules.tables import NODE_TABLE
+
+TABLE_SIGNS = 'REPNAI'
+# How far apart the program keeps the tables.
+TABLE_ROOM = 6150
+MARK = 1000
+
+
+def marked(words, length):
+    """The given words, then words that tell where they stand."""
+    return list(words) + [MARK + i for i in range(len(words), length)]
+
+
+def joined(sign, *numbers):
+    return ' '.join([sign, *map(str, numbers)])
+
+
+def planted(sign, held, wanted, start=0):
+    """Each word that differs."""
+    return ' '.join(joined(sign, start + i, w) for i, w in enumerate(wanted) if held[i] != w)
+
+
+class Script:
+    def __init__(self):
+        self.lines, self.answers = ['# Written by model.py, with what each call must answer.'], []
+        self.tables = [[] for _ in TABLE_SIGNS]
+        self.memory, self.journal, self.position = [], [], (0, 0)
+
+    def heading(self, text):
+        self.lines.append('= ' + text)
+        self.answers.append('= ' + text)
+
+    def shorter(self, whole, held, wanted, planting):
+        """Of two ways to lend words: all of them, or where as many are held those that differ."""
+        if len(held) == len(wanted):
+            differing = planting()
+            if len(differing) < len(whole):
+                whole = differing
+        self.lines.append(whole)
+
+    def table(self, which, words, length=None):
+        """The words over and over up to the length."""
+        length = len(words) if length is None else length
+        wanted = [words[i % len(words)] for i in range(length)] if words else []
+        held, self.tables[which] = self.tables[which], wanted
+        if wanted != held:
+            self.shorter(joined(TABLE_SIGNS[which], length, len(words), *words), held, wanted,
+                         lambda: planted('t', held, wanted, which * TABLE_ROOM))
+
+    def all_tables(self, tables):
+        for which, words in enumerate(tables):
+            self.table(which, words)
+
+    def lend(self, sign, held, wanted):
+        if held == wanted:
+            return
+        given = len(wanted)
+        while given > 0 and wanted[given - 1] == MARK + given - 1:
+            given -= 1
+        self.shorter(joined(sign, len(wanted), given, *wanted[:given]), held, wanted, lambda: planted(sign.lower(), held, wanted))
+        held[:] = wanted
+
+    def lend_memory(self, words):
+        self.lend('M', self.memory, words)
+
+    def lend_journal(self, words):
+        self.lend('J', self.journal, words)
+
+    def place(self, done, used):
+        if (done, used) != self.position:
+            self.position = done, used
+            self.lines.append(joined('p', done, used))
+
+    def call(self, name, command, play, refused_at=lambda: ()):
+        """Plays the call on copies of memory and journal, and tells what changed."""
+        self.lines.append(command)
+        memory, journal = list(self.memory), list(self.journal)
+        number = 0
+        try:
+            shown = play(memory, journal)
+        except Refused as refusal:
+            number = refusal.number
+            shown = getattr(refusal, 'error', refused_at())
+        self.answers.append(' '.join([name, str(number), '|', *map(str, shown), '|', *changes(self.memory, memory), '|',
+                                      *changes(self.journal, journal)]))
+        self.memory, self.journal = memory, journal
+        return number
+
+    def moved(self, position):
+        self.position = position
+        return position
+
+    def open(self):
+        return self.call('open', 'o 0', lambda memory, journal: self.moved(session.open_session(self.tables, memory, journal)))
+
+    def forward(self, reply=()):
+        def play(memory, journal):
+            return self.moved(session.forward(self.tables, memory, journal, self.position, list(reply)))
+        return self.call('forward', joined('f', len(reply), *reply), play, lambda: self.position)
+
+    def back(self):
+        def play(memory, journal):
+            return self.moved(session.back(self.tables, memory, journal, self.position))
+        return self.call('back', 'b 0', play, lambda: self.position)
+
+    def check(self):
+        return self.call('check', 'c 0', lambda memory, journal: kept.check(self.tables))
+
+    def resolve(self, row, room):
+        """Into memory of so many words."""
+        def play(memory, journal):
+            return kept.resolve(self.tables, row, memory)
+        self.lend_lists(play, room, len(self.journal))
+        return self.call('resolve', joined('v', 1, row), play)
+
+    def access(self, row, read_room, write_room):
+        """Into memory and journal of so many words."""
+        def play(memory, journal):
+            return kept.access(self.tables, row, memory, journal)
+        self.lend_lists(play, read_room, write_room)
+        return self.call('access', joined('s', 1, row), play)
+
+    def walk(self, first, count, place=None):
+        """From a place, or from where the last step ended; the place is the position's first number."""
+        if place is not None:
+            self.place(place, self.position[1])
+
+        def play(memory, journal):
+            shown = kept.walk(self.tables[NODE_TABLE], first, count, self.position[0])
+            self.position = shown[-1], self.position[1]
+            return shown
+        return self.call('walk', joined('w', 2, first, count), play)
+
+    def lend_lists(self, play, first, second):
+        """Words that all change where the call writes: marks, or else zeros less one, two and so on."""
+        for start, step in ((MARK, 1), (2 ** 64 - 1, -1)):
+            lists = [[start + step * i for i in range(length)] for length in (first, second)]
+            if not hides(play, lists):
+                self.lend_memory(lists[0])
+                self.lend_journal(lists[1])
+                return
+        raise AssertionError('a written word cannot be told')
+
+
+def hides(play, lists):
+    """Whether the call writes a word that was there already."""
+    def written(start):
+        after = [list(start(words)) for words in lists]
+        before = [list(words) for words in after]
+        try:
+            play(*after)
+        except Refused:
+            pass
+        return [[i for i, pair in enumerate(zip(*both)) if pair[0] != pair[1]] for both in zip(before, after)]
+    return written(lambda words: words) != written(lambda words: [word ^ 2 ** 62 for word in words])
+
+
+def changes(before, after):
+    return [f'{i}:{new}' for i, (old, new) in enumerate(zip(before, after)) if old != new]

@@ -1,0 +1,93 @@
+// The commands of a script, a sign each with numbers after it.
+// R, E, P, N, A, I n k w..: a table of n words, the k given ones over and over. M, J n k w..: memory or journal of n words, the k given ones and then marks.
+// t, m, j i w: a word of the tables, which lie 6,150 words apart, of memory or of journal. p done used: the position. = text: a heading up to the line feed.
+// A call with k numbers after it: o 0, open; f k w.., forward with a reply; b 0, back; c 0, check; v 1 row, resolve into memory;
+// s 1 row, the access sets into memory and journal; w 2 first count, a walk's step from the place that `done` is.
+use crate::call::call;
+use crate::lent::JOURNAL;
+use crate::lent::JOURNAL_WORDS;
+use crate::lent::LENT;
+use crate::lent::MEMORY;
+use crate::lent::MEMORY_WORDS;
+use crate::lent::TABLE_WORDS;
+use crate::lent::set_lent;
+use crate::lent::set_table;
+use crate::print;
+use script::fill::fill;
+use script::fill::put;
+use script::line::line_at;
+use script::line::part;
+use script::token::END;
+use script::token::sign_of;
+use script::token::token_at;
+
+fn heading(text: &[u8], at: usize) -> usize {
+    let line = line_at(text, at);
+    print::text(b"=");
+    print::text(part(text, at, line.next));
+    line.next
+}
+
+fn plant(text: &[u8], at: usize, words: &mut [u64]) -> usize {
+    let index = token_at(text, at);
+    let word = token_at(text, index.next);
+    put(words, index.value as usize, word.value);
+    word.next
+}
+
+// What is lent, or else a call. The place after the command.
+fn command(
+    sign: u8,
+    text: &[u8],
+    at: usize,
+    tables: &mut [u64; TABLE_WORDS],
+    memory: &mut [u64; MEMORY_WORDS],
+    journal: &mut [u64; JOURNAL_WORDS],
+    lengths: &mut [u64; LENT],
+    position: &mut [u64; 2],
+) -> usize {
+    match sign {
+        b'=' => heading(text, at),
+        b'R' => set_table(text, at, tables, 0, lengths),
+        b'E' => set_table(text, at, tables, 1, lengths),
+        b'P' => set_table(text, at, tables, 2, lengths),
+        b'N' => set_table(text, at, tables, 3, lengths),
+        b'A' => set_table(text, at, tables, 4, lengths),
+        b'I' => set_table(text, at, tables, 5, lengths),
+        b'M' => set_lent(text, at, memory, MEMORY, lengths),
+        b'J' => set_lent(text, at, journal, JOURNAL, lengths),
+        b't' => plant(text, at, tables),
+        b'm' => plant(text, at, memory),
+        b'j' => plant(text, at, journal),
+        b'p' => fill(text, at, position, 2),
+        _ => call(sign, text, at, tables, memory, journal, *lengths, position),
+    }
+}
+
+// No command is shorter than a byte.
+pub fn play(text: &[u8]) {
+    let mut tables = [0; TABLE_WORDS];
+    let mut memory = [0; MEMORY_WORDS];
+    let mut journal = [0; JOURNAL_WORDS];
+    let mut lengths = [0; LENT];
+    let mut position = [0; 2];
+    let mut at = 0;
+    let mut turns = text.len();
+    while turns > 0 {
+        let token = token_at(text, at);
+        if token.kind == END {
+            return;
+        }
+        at = command(
+            sign_of(token),
+            text,
+            token.next,
+            &mut tables,
+            &mut memory,
+            &mut journal,
+            &mut lengths,
+            &mut position,
+        );
+        turns -= 1;
+    }
+}
