@@ -3,7 +3,7 @@ ghost use mathlib.Core.Path.{_≡_};
 ghost use Prim.Native.Nat.{_<_};
 ghost use Rattle.tables.specs.Rows.{regionRows, regionKind};
 ghost use Rattle.type_check.specs.Judgement.{verdictAt};
-ghost use Rattle.type_check.specs.Rule.{arithmeticSource, arithmeticRule, sourceRule, comparisonRule, logicSource, logicRule, unaryRule, moveRule, exchangeRule, loadKinds, loadRule, storeSource, storeRule};
+ghost use Rattle.type_check.specs.Rule.{arithmeticSource, arithmeticRule, sourceRule, comparisonRule, logicSource, logicRule, unaryRule, moveRule, exchangeRule, loadOffset, loadRule, storeSource, storeRule};
 ghost use Rattle.type_check.specs.Looks.{pairOf, fitOf};
 ghost use Rattle.type_check.specs.Codes.{kindCode, codeOf, firstCode, secondCode, referenceCode, operandCode};
 use crate::code::BIT_ONLY;
@@ -252,10 +252,14 @@ pub fn type_check_exchange(regions: &[u64], row: u64, x: Instruction) -> Verdict
     }
 }
 
-// The kinds of a LOAD whose operands are declared.
-fn load_kinds(row: u64, destination: u64, source: u64, offset: u64) -> Verdict
-    ensures { λ r. ⌜ r ≡ verdictAt row (loadKinds destination source offset) ⌝ }
+// A LOAD's offset, and then the kinds of its destination and its source.
+fn load_offset(regions: &[u64], row: u64, destination: u64, source: u64, name: u64) -> Verdict
+    ensures { λ r. ⌜ r ≡ verdictAt row (loadOffset destination source (codeOf (now (regions .entry)) name)) ⌝ }
 {
+    let Found::At(region) = lookup_region(regions, name) else {
+        return undefined_memory_reference(row, SOURCE);
+    };
+    let offset = kind_at(regions, region);
     match offset {
         INTEGER => {
             if destination == source {
@@ -271,19 +275,13 @@ fn load_kinds(row: u64, destination: u64, source: u64, offset: u64) -> Verdict
 pub fn type_check_load(regions: &[u64], row: u64, x: Instruction) -> Verdict
     ensures { λ r. ⌜ r ≡ verdictAt row (loadRule (firstCode (now (regions .entry)) x) (secondCode (now (regions .entry)) x) (referenceCode (now (regions .entry)) x)) ⌝ }
 {
-    let Found::At(first) = lookup_region(regions, x.first_name) else {
-        return undefined_memory_reference(row, FIRST);
-    };
-    let Found::At(second) = lookup_region(regions, x.second_name) else {
-        return undefined_memory_reference(row, SECOND);
-    };
-    let Found::At(third) = lookup_region(regions, x.source_first) else {
-        return undefined_memory_reference(row, SOURCE);
-    };
-    let destination = kind_at(regions, first);
-    let source = kind_at(regions, second);
-    let offset = kind_at(regions, third);
-    load_kinds(row, destination, source, offset)
+    match pair_of(regions, x) {
+        Pair::NoFirst => undefined_memory_reference(row, FIRST),
+        Pair::NoSecond => undefined_memory_reference(row, SECOND),
+        Pair::Kinds(destination, source) => {
+            load_offset(regions, row, destination, source, x.source_first)
+        }
+    }
 }
 
 // A STORE's source against the kind of its destination: the source is the error's `dst`.
