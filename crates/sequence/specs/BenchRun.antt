@@ -20,7 +20,7 @@ use Rattle.tables.specs.Tree.{arityOf, treesFrom, inside, oneTree}
 use Rattle.tables.specs.Lookup.{lookupOf, lookupAmong, distinct}
 use Rattle.loader.specs.Load.{loadLook, allowedTables, distinctNames}
 use Rattle.tables.specs.Cells.{firstCell, cellCount, cellsOf}
-use Rattle.type_check.specs.Rule.{arithmeticRule, sourceRule, logicSource, logicRule, moveRule, exchangeRule, loadKinds, loadRule, storeSource, storeRule, ruleOf}
+use Rattle.type_check.specs.Rule.{arithmeticRule, sourceRule, logicSource, logicRule, moveRule, exchangeRule, loadOffset, loadRule, storeSource, storeRule, ruleOf}
 use Rattle.type_check.specs.Codes.{kindCode, codeOf, operandCode, sourceCode, rowRule}
 use Rattle.type_check.specs.Frame.{numberVerdict, nodeVerdict, treeVerdict, frameRule}
 use Rattle.type_check.specs.Check.{judgementOf, verdictOf, checkOf}
@@ -95,7 +95,7 @@ unfolding fitsKind widthOf lowBits signed wordOf integerIsNegative integerDivide
     nodeAllowed argumentsAllowed instructionsAllowed instructionAllowed operatorsOf formAllowed sourceAllowed operandsAllowed oneTree inside treesFrom
     arityOf distinctNames distinct lookupOf lookupAmong cellsOf cellCount firstCell
     checkOf verdictOf judgementOf rowRule ruleOf sourceCode operandCode codeOf kindCode arithmeticRule sourceRule logicRule logicSource moveRule
-    exchangeRule loadRule loadKinds storeRule storeSource frameRule treeVerdict nodeVerdict numberVerdict
+    exchangeRule loadRule loadOffset storeRule storeSource frameRule treeVerdict nodeVerdict numberVerdict
     put applied flatten olds log closing entered journaled entriesAt restored undone present
     zeros zerosFrom declaredKind regionOf regionAmong outcomeAt outcomeOf plainOutcome namesOf namedOf addressesOf writtenOf indexedOf indexFits addressOf
     readOf sourceOf offsetOf families.familyOf families.putInto families.arithmeticOf families.logicOf families.moveOf families.exchangeOf

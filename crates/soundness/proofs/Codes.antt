@@ -107,7 +107,7 @@ abbrev pub loadWants : ℕ → ℕ → ℕ → List Bool
 loadWants d e o = declared d ∷ declared e ∷ declared o ∷ eqb o 1 ∷ eqb d e ∷ []
 
 pub load-wants : (d e o : ℕ) → Code 4 d → Code 4 e → Code 6 o → T.loadRule d e o ≡ pass → Trues (loadWants d e o)
-unfolding first every T.loadRule T.loadKinds
+unfolding first every T.loadRule T.loadOffset
 load-wants = given₃ T.loadRule loadWants refl
 
 abbrev pub storeWants : ℕ → ℕ → ℕ → List Bool

@@ -2,7 +2,7 @@
 use Prim.Native.Nat.{ℕ}
 use mathlib.Core.Bool.{Bool, true, false, cond}
 use mathlib.Core.List.{List, [], _∷_}
-use Rattle.type_check.specs.Numbers.{absent}
+use Rattle.type_check.specs.Numbers.{undefinedError, dataTypeError, realRequiredError, operandError, absent, noSpot}
 use Rattle.type_check.specs.declared.error.Verdict.{Verdict}
 use Rattle.type_check.specs.declared.error.Verdict.the-variants.{Accepted, Error}
 
@@ -21,22 +21,22 @@ pub data Judgement : Type 0 where
 -- "1 has 8 and 8"
 abbrev pub undefinedMemoryReference : ℕ → Judgement
 undefinedMemoryReference spot =
-    fail (record { kind = 1; spot = spot; src-spot = 0; first-code = absent; second-code = absent })
+    fail (record { kind = undefinedError; spot = spot; src-spot = noSpot; first-code = absent; second-code = absent })
 
 -- "Error 2 has dst and src codes"
 abbrev pub dataTypeMismatch : ℕ → ℕ → ℕ → ℕ → Judgement
 dataTypeMismatch dst-spot src-spot dst src =
-    fail (record { kind = 2; spot = dst-spot; src-spot = src-spot; first-code = dst; second-code = src })
+    fail (record { kind = dataTypeError; spot = dst-spot; src-spot = src-spot; first-code = dst; second-code = src })
 
 -- "3 has found and 8"
 abbrev pub realValueRequired : ℕ → ℕ → Judgement
 realValueRequired spot found =
-    fail (record { kind = 3; spot = spot; src-spot = 0; first-code = found; second-code = absent })
+    fail (record { kind = realRequiredError; spot = spot; src-spot = noSpot; first-code = found; second-code = absent })
 
 -- "4 has found and required"
 abbrev pub operatorOperandMismatch : ℕ → ℕ → ℕ → Judgement
 operatorOperandMismatch spot found required =
-    fail (record { kind = 4; spot = spot; src-spot = 0; first-code = found; second-code = required })
+    fail (record { kind = operandError; spot = spot; src-spot = noSpot; first-code = found; second-code = required })
 
 -- clauses in their order: the judgement of the first whose test holds, else `other`
 abbrev pub judge : List (Bool × Judgement) → Judgement → Judgement

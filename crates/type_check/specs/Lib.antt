@@ -1,6 +1,7 @@
 pub mod Numbers
 pub mod Judgement
 pub mod Rule
+pub mod Looks
 pub mod Codes
 pub mod Frame
 pub mod Check

@@ -1,7 +1,20 @@
--- 01: "two codes: kinds 0 to 3, 4 integer literal, 5 real literal, 6 imaginary, 7 variable, 8 absent, 9 real or integral, 10 integral, 11 bit".
--- The codes 0 to 5 are named in words/specs/Kind.antt.
+-- The numbers in a type error. "A type error holds kind (1 undefined, 2 data type, 3 real required, 4 operand), row, spot .., spot of `src` or 0, and two codes".
 use Prim.Native.Nat.{ℕ, _+_}
 
+abbrev pub undefinedError : ℕ
+undefinedError = 1
+
+abbrev pub dataTypeError : ℕ
+dataTypeError = 2
+
+abbrev pub realRequiredError : ℕ
+realRequiredError = 3
+
+abbrev pub operandError : ℕ
+operandError = 4
+
+-- "two codes: kinds 0 to 3, 4 integer literal, 5 real literal, 6 imaginary, 7 variable, 8 absent, 9 real or integral, 10 integral, 11 bit".
+-- Those up to 5 are named in words/specs/Kind.antt.
 abbrev pub imaginary : ℕ
 imaginary = 6
 
@@ -34,6 +47,10 @@ sourceSpot = 3
 -- of STORE: "an undeclared source is error 1 naming the offset"
 abbrev pub storeSourceSpot : ℕ
 storeSourceSpot = secondSpot
+
+-- where an error has no `src`
+abbrev pub noSpot : ℕ
+noSpot = 0
 
 abbrev pub nodeSpot : ℕ → ℕ
 nodeSpot place = 4 + place

@@ -115,24 +115,24 @@ exchangeRule left right =
     ∷ [])
     pass
 
--- "offset not INTEGER is 4; kinds differ is 2"
-unfoldable pub loadKinds : ℕ → ℕ → ℕ → Judgement
-loadKinds destination source offset =
+-- ".., offset declared; offset not INTEGER is 4; kinds differ is 2"
+unfoldable pub loadOffset : ℕ → ℕ → ℕ → Judgement
+loadOffset destination source offset =
     judge
-    ((not (eqb offset integer), operatorOperandMismatch sourceSpot offset integral)
+    ((undeclared offset, undefinedMemoryReference sourceSpot)
+    ∷ (not (eqb offset integer), operatorOperandMismatch sourceSpot offset integral)
     ∷ (not (eqb destination source), dataTypeMismatch firstSpot secondSpot destination source)
     ∷ [])
     pass
 
--- "Load: destination, source, offset declared; .."
+-- "Load: destination, source, .."
 unfoldable pub loadRule : ℕ → ℕ → ℕ → Judgement
 loadRule destination source offset =
     judge
     ((undeclared destination, undefinedMemoryReference firstSpot)
     ∷ (undeclared source, undefinedMemoryReference secondSpot)
-    ∷ (undeclared offset, undefinedMemoryReference sourceSpot)
     ∷ [])
-    (loadKinds destination source offset)
+    (loadOffset destination source offset)
 
 -- "an undeclared source is error 1 naming the offset; kinds as for move, or 2 with source as `dst`"
 unfoldable pub storeSource : ℕ → ℕ → Judgement

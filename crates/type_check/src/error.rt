@@ -2,6 +2,11 @@
 ghost use mathlib.Core.Path.{_≡_};
 ghost use Rattle.type_check.specs.Judgement.{undefinedMemoryReference, dataTypeMismatch, realValueRequired, operatorOperandMismatch, verdictAt};
 use crate::code::ABSENT;
+use crate::code::DATA_TYPE;
+use crate::code::NO_SPOT;
+use crate::code::OPERAND;
+use crate::code::REAL_REQUIRED;
+use crate::code::UNDEFINED;
 
 // 01's six words.
 pub struct TypeError {
@@ -22,10 +27,10 @@ pub fn undefined_memory_reference(row: u64, spot: u64) -> Verdict
     ensures { λ r. ⌜ r ≡ verdictAt row (undefinedMemoryReference spot) ⌝ }
 {
     Verdict::Error(TypeError {
-        kind: 1,
+        kind: UNDEFINED,
         row,
         spot,
-        src_spot: 0,
+        src_spot: NO_SPOT,
         first_code: ABSENT,
         second_code: ABSENT,
     })
@@ -35,7 +40,7 @@ pub fn data_type_mismatch(row: u64, dst_spot: u64, src_spot: u64, dst: u64, src:
     ensures { λ r. ⌜ r ≡ verdictAt row (dataTypeMismatch «dst_spot» «src_spot» dst src) ⌝ }
 {
     Verdict::Error(TypeError {
-        kind: 2,
+        kind: DATA_TYPE,
         row,
         spot: dst_spot,
         src_spot,
@@ -48,10 +53,10 @@ pub fn real_value_required(row: u64, spot: u64, found: u64) -> Verdict
     ensures { λ r. ⌜ r ≡ verdictAt row (realValueRequired spot found) ⌝ }
 {
     Verdict::Error(TypeError {
-        kind: 3,
+        kind: REAL_REQUIRED,
         row,
         spot,
-        src_spot: 0,
+        src_spot: NO_SPOT,
         first_code: found,
         second_code: ABSENT,
     })
@@ -61,10 +66,10 @@ pub fn operator_operand_mismatch(row: u64, spot: u64, found: u64, required: u64)
     ensures { λ r. ⌜ r ≡ verdictAt row (operatorOperandMismatch spot found required) ⌝ }
 {
     Verdict::Error(TypeError {
-        kind: 4,
+        kind: OPERAND,
         row,
         spot,
-        src_spot: 0,
+        src_spot: NO_SPOT,
         first_code: found,
         second_code: required,
     })

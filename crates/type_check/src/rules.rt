@@ -3,7 +3,8 @@ ghost use mathlib.Core.Path.{_≡_};
 ghost use Prim.Native.Nat.{_<_};
 ghost use Rattle.tables.specs.Rows.{regionRows, regionKind};
 ghost use Rattle.type_check.specs.Judgement.{verdictAt};
-ghost use Rattle.type_check.specs.Rule.{arithmeticSource, arithmeticRule, sourceRule, comparisonRule, logicSource, logicRule, unaryRule, moveRule, exchangeRule, loadKinds, loadRule, storeSource, storeRule};
+ghost use Rattle.type_check.specs.Rule.{arithmeticSource, arithmeticRule, sourceRule, comparisonRule, logicSource, logicRule, unaryRule, moveRule, exchangeRule, loadOffset, loadRule, storeSource, storeRule};
+ghost use Rattle.type_check.specs.Looks.{pairOf, fitOf};
 ghost use Rattle.type_check.specs.Codes.{kindCode, codeOf, firstCode, secondCode, referenceCode, operandCode};
 use crate::code::BIT_ONLY;
 use crate::code::FIRST;
@@ -27,6 +28,20 @@ use words::kind::INTEGER_LITERAL;
 use words::kind::OCTET;
 use words::kind::REAL;
 use words::kind::REAL_LITERAL;
+
+// The kinds of a row's first and second operand. The first that is undeclared ends the look.
+pub enum Pair {
+    NoFirst,
+    NoSecond,
+    Kinds(u64, u64),
+}
+
+// How a source goes with the kind of another operand; a misfit comes with its code.
+pub enum Fit {
+    Fits,
+    Absent,
+    Misfits(u64),
+}
 
 // A declared region's kind. The loader leaves no word above REAL there.
 pub fn kind_at(regions: &[u64], region: usize) -> u64
@@ -85,53 +100,70 @@ pub fn type_check_arithmetic(regions: &[u64], row: u64, x: Instruction) -> Verdi
     }
 }
 
-// A reference against the kind of the operand at `spot`.
-fn source_reference(regions: &[u64], row: u64, spot: u64, kind: u64, name: u64) -> Verdict
-    ensures { λ r. ⌜ r ≡ verdictAt row (sourceRule spot kind (codeOf (now (regions .entry)) name)) ⌝ }
+fn reference_fit(regions: &[u64], kind: u64, name: u64) -> Fit
+    ensures { λ r. ⌜ r ≡ fitOf kind (codeOf (now (regions .entry)) name) ⌝ }
 {
     let Found::At(region) = lookup_region(regions, name) else {
-        return undefined_memory_reference(row, SOURCE);
+        return Fit::Absent;
     };
     let source = kind_at(regions, region);
     if kind == source {
-        Verdict::Accepted
+        Fit::Fits
     } else {
-        data_type_mismatch(row, spot, SOURCE, kind, source)
+        Fit::Misfits(source)
     }
 }
 
-// A literal or a reference against the kind of the operand at `spot`: MOVE's source, a comparison's rhs.
-fn check_source(regions: &[u64], row: u64, spot: u64, kind: u64, x: Instruction) -> Verdict
-    ensures { λ r. ⌜ r ≡ verdictAt row (sourceRule spot kind (operandCode (now (regions .entry)) x)) ⌝ }
+fn source_fit(regions: &[u64], kind: u64, x: Instruction) -> Fit
+    ensures { λ r. ⌜ r ≡ fitOf kind (operandCode (now (regions .entry)) x) ⌝ }
 {
     let form = x.source_form;
     match form {
         source::INTEGER_LITERAL => match kind {
-            BIT..=OCTET => Verdict::Accepted,
-            _ => data_type_mismatch(row, spot, SOURCE, kind, INTEGER_LITERAL),
+            BIT..=OCTET => Fit::Fits,
+            _ => Fit::Misfits(INTEGER_LITERAL),
         },
         source::REAL_LITERAL => match kind {
-            BIT..=OCTET => data_type_mismatch(row, spot, SOURCE, kind, REAL_LITERAL),
-            _ => Verdict::Accepted,
+            BIT..=OCTET => Fit::Misfits(REAL_LITERAL),
+            _ => Fit::Fits,
         },
-        _ => source_reference(regions, row, spot, kind, x.source_first),
+        _ => reference_fit(regions, kind, x.source_first),
     }
+}
+
+// MOVE's source, a comparison's rhs: against the kind of the operand at `spot`.
+fn check_source(regions: &[u64], row: u64, spot: u64, kind: u64, x: Instruction) -> Verdict
+    ensures { λ r. ⌜ r ≡ verdictAt row (sourceRule spot kind (operandCode (now (regions .entry)) x)) ⌝ }
+{
+    match source_fit(regions, kind, x) {
+        Fit::Fits => Verdict::Accepted,
+        Fit::Absent => undefined_memory_reference(row, SOURCE),
+        Fit::Misfits(source) => data_type_mismatch(row, spot, SOURCE, kind, source),
+    }
+}
+
+fn pair_of(regions: &[u64], x: Instruction) -> Pair
+    ensures { λ r. ⌜ r ≡ pairOf (firstCode (now (regions .entry)) x) (secondCode (now (regions .entry)) x) ⌝ }
+{
+    let Found::At(first) = lookup_region(regions, x.first_name) else {
+        return Pair::NoFirst;
+    };
+    let Found::At(second) = lookup_region(regions, x.second_name) else {
+        return Pair::NoSecond;
+    };
+    Pair::Kinds(kind_at(regions, first), kind_at(regions, second))
 }
 
 pub fn type_check_comparison(regions: &[u64], row: u64, x: Instruction) -> Verdict
     ensures { λ r. ⌜ r ≡ verdictAt row (comparisonRule (firstCode (now (regions .entry)) x) (secondCode (now (regions .entry)) x) (operandCode (now (regions .entry)) x)) ⌝ }
 {
-    let Found::At(first) = lookup_region(regions, x.first_name) else {
-        return undefined_memory_reference(row, FIRST);
-    };
-    let Found::At(second) = lookup_region(regions, x.second_name) else {
-        return undefined_memory_reference(row, SECOND);
-    };
-    let destination = kind_at(regions, first);
-    let lhs = kind_at(regions, second);
-    match destination {
-        BIT => check_source(regions, row, SECOND, lhs, x),
-        _ => operator_operand_mismatch(row, FIRST, destination, BIT_ONLY),
+    match pair_of(regions, x) {
+        Pair::NoFirst => undefined_memory_reference(row, FIRST),
+        Pair::NoSecond => undefined_memory_reference(row, SECOND),
+        Pair::Kinds(destination, lhs) => match destination {
+            BIT => check_source(regions, row, SECOND, lhs, x),
+            _ => operator_operand_mismatch(row, FIRST, destination, BIT_ONLY),
+        },
     }
 }
 
@@ -207,25 +239,27 @@ pub fn type_check_move(regions: &[u64], row: u64, x: Instruction) -> Verdict
 pub fn type_check_exchange(regions: &[u64], row: u64, x: Instruction) -> Verdict
     ensures { λ r. ⌜ r ≡ verdictAt row (exchangeRule (firstCode (now (regions .entry)) x) (secondCode (now (regions .entry)) x)) ⌝ }
 {
-    let Found::At(first) = lookup_region(regions, x.first_name) else {
-        return undefined_memory_reference(row, FIRST);
-    };
-    let Found::At(second) = lookup_region(regions, x.second_name) else {
-        return undefined_memory_reference(row, SECOND);
-    };
-    let left = kind_at(regions, first);
-    let right = kind_at(regions, second);
-    if left == right {
-        Verdict::Accepted
-    } else {
-        data_type_mismatch(row, FIRST, SECOND, left, right)
+    match pair_of(regions, x) {
+        Pair::NoFirst => undefined_memory_reference(row, FIRST),
+        Pair::NoSecond => undefined_memory_reference(row, SECOND),
+        Pair::Kinds(left, right) => {
+            if left == right {
+                Verdict::Accepted
+            } else {
+                data_type_mismatch(row, FIRST, SECOND, left, right)
+            }
+        }
     }
 }
 
-// The kinds of a LOAD whose operands are declared.
-fn load_kinds(row: u64, destination: u64, source: u64, offset: u64) -> Verdict
-    ensures { λ r. ⌜ r ≡ verdictAt row (loadKinds destination source offset) ⌝ }
+// A LOAD's offset, and then the kinds of its destination and its source.
+fn load_offset(regions: &[u64], row: u64, destination: u64, source: u64, name: u64) -> Verdict
+    ensures { λ r. ⌜ r ≡ verdictAt row (loadOffset destination source (codeOf (now (regions .entry)) name)) ⌝ }
 {
+    let Found::At(region) = lookup_region(regions, name) else {
+        return undefined_memory_reference(row, SOURCE);
+    };
+    let offset = kind_at(regions, region);
     match offset {
         INTEGER => {
             if destination == source {
@@ -241,33 +275,12 @@ fn load_kinds(row: u64, destination: u64, source: u64, offset: u64) -> Verdict
 pub fn type_check_load(regions: &[u64], row: u64, x: Instruction) -> Verdict
     ensures { λ r. ⌜ r ≡ verdictAt row (loadRule (firstCode (now (regions .entry)) x) (secondCode (now (regions .entry)) x) (referenceCode (now (regions .entry)) x)) ⌝ }
 {
-    let Found::At(first) = lookup_region(regions, x.first_name) else {
-        return undefined_memory_reference(row, FIRST);
-    };
-    let Found::At(second) = lookup_region(regions, x.second_name) else {
-        return undefined_memory_reference(row, SECOND);
-    };
-    let Found::At(third) = lookup_region(regions, x.source_first) else {
-        return undefined_memory_reference(row, SOURCE);
-    };
-    let destination = kind_at(regions, first);
-    let source = kind_at(regions, second);
-    let offset = kind_at(regions, third);
-    load_kinds(row, destination, source, offset)
-}
-
-// A STORE's source that is a reference.
-fn store_reference(regions: &[u64], row: u64, destination: u64, name: u64) -> Verdict
-    ensures { λ r. ⌜ r ≡ verdictAt row (storeSource destination (codeOf (now (regions .entry)) name)) ⌝ }
-{
-    let Found::At(region) = lookup_region(regions, name) else {
-        return undefined_memory_reference(row, STORE_SOURCE);
-    };
-    let source = kind_at(regions, region);
-    if destination == source {
-        Verdict::Accepted
-    } else {
-        data_type_mismatch(row, SOURCE, FIRST, source, destination)
+    match pair_of(regions, x) {
+        Pair::NoFirst => undefined_memory_reference(row, FIRST),
+        Pair::NoSecond => undefined_memory_reference(row, SECOND),
+        Pair::Kinds(destination, source) => {
+            load_offset(regions, row, destination, source, x.source_first)
+        }
     }
 }
 
@@ -275,33 +288,22 @@ fn store_reference(regions: &[u64], row: u64, destination: u64, name: u64) -> Ve
 fn store_source(regions: &[u64], row: u64, destination: u64, x: Instruction) -> Verdict
     ensures { λ r. ⌜ r ≡ verdictAt row (storeSource destination (operandCode (now (regions .entry)) x)) ⌝ }
 {
-    let form = x.source_form;
-    match form {
-        source::INTEGER_LITERAL => match destination {
-            BIT..=OCTET => Verdict::Accepted,
-            _ => data_type_mismatch(row, SOURCE, FIRST, INTEGER_LITERAL, destination),
-        },
-        source::REAL_LITERAL => match destination {
-            BIT..=OCTET => data_type_mismatch(row, SOURCE, FIRST, REAL_LITERAL, destination),
-            _ => Verdict::Accepted,
-        },
-        _ => store_reference(regions, row, destination, x.source_first),
+    match source_fit(regions, destination, x) {
+        Fit::Fits => Verdict::Accepted,
+        Fit::Absent => undefined_memory_reference(row, STORE_SOURCE),
+        Fit::Misfits(source) => data_type_mismatch(row, SOURCE, FIRST, source, destination),
     }
 }
 
 pub fn type_check_store(regions: &[u64], row: u64, x: Instruction) -> Verdict
     ensures { λ r. ⌜ r ≡ verdictAt row (storeRule (firstCode (now (regions .entry)) x) (secondCode (now (regions .entry)) x) (operandCode (now (regions .entry)) x)) ⌝ }
 {
-    let Found::At(first) = lookup_region(regions, x.first_name) else {
-        return undefined_memory_reference(row, FIRST);
-    };
-    let Found::At(second) = lookup_region(regions, x.second_name) else {
-        return undefined_memory_reference(row, SECOND);
-    };
-    let destination = kind_at(regions, first);
-    let offset = kind_at(regions, second);
-    match offset {
-        INTEGER => store_source(regions, row, destination, x),
-        _ => operator_operand_mismatch(row, SECOND, offset, INTEGRAL),
+    match pair_of(regions, x) {
+        Pair::NoFirst => undefined_memory_reference(row, FIRST),
+        Pair::NoSecond => undefined_memory_reference(row, SECOND),
+        Pair::Kinds(destination, offset) => match offset {
+            INTEGER => store_source(regions, row, destination, x),
+            _ => operator_operand_mismatch(row, SECOND, offset, INTEGRAL),
+        },
     }
 }

@@ -1,23 +1,12 @@
-use mathlib.Core.Path.{sym, _∙_}
 use borrow.Author.Tests.{eq-eqb, ne-eqb}
 use borrow.Author.Needs.{needs}
-use Rattle.tables.proofs.LookupLaws.{lookup-within}
 use Rattle.type_check.specs.Rule.{storeRule}
-use Rattle.type_check.proofs.CodeLaws.{Kind, kind-read, code-none, code-declared}
+use Rattle.type_check.proofs.LookLaws.{pair-told}
 use Rattle.type_check.proofs.rules.type_check_store.Statement.{statement}
 use Rattle.type_check.proofs.rules.type_check_store.Tie as tie
 
-seen-first : (c : tie.After-kind-at) → let a = c .before .before .before .before .before .before .before .before .before .before .args in Kind (a .regions .now) (a .x .«first_name») (c .kind-at .result)
-seen-first c = kind-read _ _ (c .before .before .before .before .before .before .before .before .lookup-region .ensures) (c .before .before .before .before .before .before .first .given .1) (c .kind-at .ensures)
-
-seen-second : (c : tie.After-kind-at2) → let a = c .before .before .before .before .before .before .before .before .before .before .before .args in Kind (a .regions .now) (a .x .«second_name») (c .kind-at2 .result)
-seen-second c = kind-read _ _ (c .before .before .before .before .before .lookup-region2 .ensures) (c .before .before .before .second .given .1) (c .kind-at2 .ensures)
-
-lookup-region-requires : tie.Need-lookup-region-requires
-lookup-region-requires c κs = search needs
-
-enum-known-first : tie.Need-enum-known-first
-enum-known-first c = search needs
+pair-of-requires : tie.Need-pair-of-requires
+pair-of-requires c κs = search needs
 
 enum-told : tie.Need-enum-told
 enum-told c = search needs
@@ -25,31 +14,14 @@ enum-told c = search needs
 undefined-memory-reference-requires : tie.Need-undefined-memory-reference-requires
 undefined-memory-reference-requires c κs = search needs
 
-returns : tie.Need-returns
-unfolding storeRule
-returns c = rw (code-none _ _ (c .before .before .before .lookup-region .ensures) (c .before .enum-told .given .1)) (c .undefined-memory-reference .ensures)
-
-lookup-region-requires-2 : tie.Need-lookup-region-requires-2
-lookup-region-requires-2 c κs = search needs
-
-enum-known-second : tie.Need-enum-known-second
-enum-known-second c = search needs
-
 enum-told-2 : tie.Need-enum-told-2
 enum-told-2 c = search needs
 
 undefined-memory-reference-requires-2 : tie.Need-undefined-memory-reference-requires-2
 undefined-memory-reference-requires-2 c κs = search needs
 
-returns-2 : tie.Need-returns-2
-unfolding storeRule
-returns-2 c = rw (code-declared _ _ (c .before .before .before .before .before .before .before .lookup-region .ensures) (c .before .before .before .before .before .first .given .1), code-none _ _ (c .before .before .before .lookup-region2 .ensures) (c .before .enum-told2 .given .1)) (c .undefined-memory-reference2 .ensures)
-
-kind-at-requires : tie.Need-kind-at-requires
-kind-at-requires c κs = lookup-within _ _ _ _ (sym (c .before .before .before .before .before .before .before .lookup-region .ensures) ∙ c .before .before .before .before .before .first .given .1)
-
-kind-at-requires-2 : tie.Need-kind-at-requires-2
-kind-at-requires-2 c κs = lookup-within _ _ _ _ (sym (c .before .before .before .before .lookup-region2 .ensures) ∙ c .before .before .second .given .1)
+enum-known-destination : tie.Need-enum-known-destination
+enum-known-destination c = search needs
 
 store-source-requires : tie.Need-store-source-requires
 store-source-requires c κs = search needs
@@ -57,31 +29,35 @@ store-source-requires c κs = search needs
 operator-operand-mismatch-requires : tie.Need-operator-operand-mismatch-requires
 operator-operand-mismatch-requires c κs = search needs
 
+returns : tie.Need-returns
+unfolding storeRule
+returns c = let h = pair-told _ _ (c .before .before .before .pair-of .ensures) (c .before .enum-told .given .1) in rw h (c .undefined-memory-reference .ensures)
+
+returns-2 : tie.Need-returns-2
+unfolding storeRule
+returns-2 c = let h = pair-told _ _ (c .before .before .before .pair-of .ensures) (c .before .enum-told2 .given .1) in rw (h .0, h .1) (c .undefined-memory-reference2 .ensures)
+
 returns-3 : tie.Need-returns-3
 unfolding storeRule
-returns-3 c = rw (seen-first (c .before .before .before) .code, seen-first (c .before .before .before) .declared, seen-second (c .before .before) .code, seen-second (c .before .before) .declared, eq-eqb _ _ (c .before .match3 .keys1)) (c .store-source .ensures)
+returns-3 c = let h = pair-told _ _ (c .before .before .before .before .before .pair-of .ensures) (c .before .before .before .destination .given .1) in rw (h .0, h .1, h .2, h .3, eq-eqb _ _ (c .before .match2 .keys1)) (c .store-source .ensures)
 
 returns-4 : tie.Need-returns-4
 unfolding storeRule
-returns-4 c = rw (seen-first (c .before .before .before) .code, seen-first (c .before .before .before) .declared, seen-second (c .before .before) .code, seen-second (c .before .before) .declared, ne-eqb _ _ (c .before .match3 .rest .1)) (c .operator-operand-mismatch .ensures)
+returns-4 c = let h = pair-told _ _ (c .before .before .before .before .before .pair-of .ensures) (c .before .before .before .destination .given .1) in rw (h .0, h .1, h .2, h .3, ne-eqb _ _ (c .before .match2 .rest .1)) (c .operator-operand-mismatch .ensures)
 
 pub type-check-store-spec : {M : Type 1} → statement M
 type-check-store-spec =
     tie.close
     (tie.spec
-    lookup-region-requires
-    enum-known-first
+    pair-of-requires
     enum-told
     undefined-memory-reference-requires
-    returns
-    lookup-region-requires-2
-    enum-known-second
     enum-told-2
     undefined-memory-reference-requires-2
-    returns-2
-    kind-at-requires
-    kind-at-requires-2
+    enum-known-destination
     store-source-requires
     operator-operand-mismatch-requires
+    returns
+    returns-2
     returns-3
     returns-4)

@@ -2,10 +2,10 @@ use mathlib.Core.Path.{sym, _∙_}
 use borrow.Author.Tests.{eq-eqb, ne-eqb}
 use borrow.Author.Needs.{needs}
 use Rattle.tables.proofs.LookupLaws.{lookup-within}
-use Rattle.type_check.specs.Rule.{storeSource}
+use Rattle.type_check.specs.Looks.{fitOf}
 use Rattle.type_check.proofs.CodeLaws.{Kind, kind-read, no-kind, code-none}
-use Rattle.type_check.proofs.rules.store_reference.Statement.{statement}
-use Rattle.type_check.proofs.rules.store_reference.Tie as tie
+use Rattle.type_check.proofs.rules.reference_fit.Statement.{statement}
+use Rattle.type_check.proofs.rules.reference_fit.Tie as tie
 
 seen : (c : tie.After-kind-at) → let a = c .before .before .before .before .before .before .args in Kind (a .regions .now) (a .name) (c .kind-at .result)
 seen c = kind-read _ _ (c .before .before .before .before .lookup-region .ensures) (c .before .before .region .given .1) (c .kind-at .ensures)
@@ -19,37 +19,29 @@ enum-known-region c = search needs
 enum-told : tie.Need-enum-told
 enum-told c = search needs
 
-undefined-memory-reference-requires : tie.Need-undefined-memory-reference-requires
-undefined-memory-reference-requires c κs = search needs
-
 returns : tie.Need-returns
-unfolding storeSource
-returns c = rw (code-none _ _ (c .before .before .before .lookup-region .ensures) (c .before .enum-told .given .1)) (c .undefined-memory-reference .ensures)
+unfolding fitOf
+returns c = rw (code-none _ _ (c .before .before .lookup-region .ensures) (c .enum-told .given .1))
 
 kind-at-requires : tie.Need-kind-at-requires
 kind-at-requires c κs = lookup-within _ _ _ _ (sym (c .before .before .before .lookup-region .ensures) ∙ c .before .region .given .1)
 
-data-type-mismatch-requires : tie.Need-data-type-mismatch-requires
-data-type-mismatch-requires c κs = search needs
-
 returns-2 : tie.Need-returns-2
-unfolding storeSource
+unfolding fitOf
 returns-2 c = rw (seen (c .before) .code, seen (c .before) .declared, no-kind 0 (seen (c .before) .below), no-kind 1 (seen (c .before) .below), eq-eqb _ _ (c .if1 .taken))
 
 returns-3 : tie.Need-returns-3
-unfolding storeSource
-returns-3 c = rw (seen (c .before .before) .code, seen (c .before .before) .declared, no-kind 0 (seen (c .before .before) .below), no-kind 1 (seen (c .before .before) .below), ne-eqb _ _ (c .before .if1 .left)) (c .data-type-mismatch .ensures)
+unfolding fitOf
+returns-3 c = rw (seen (c .before) .code, seen (c .before) .declared, no-kind 0 (seen (c .before) .below), no-kind 1 (seen (c .before) .below), ne-eqb _ _ (c .if1 .left))
 
-pub store-reference-spec : {M : Type 1} → statement M
-store-reference-spec =
+pub reference-fit-spec : {M : Type 1} → statement M
+reference-fit-spec =
     tie.close
     (tie.spec
     lookup-region-requires
     enum-known-region
     enum-told
-    undefined-memory-reference-requires
     returns
     kind-at-requires
-    data-type-mismatch-requires
     returns-2
     returns-3)

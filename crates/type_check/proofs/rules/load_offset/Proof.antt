@@ -2,10 +2,10 @@ use mathlib.Core.Path.{sym, _∙_}
 use borrow.Author.Tests.{eq-eqb, ne-eqb}
 use borrow.Author.Needs.{needs}
 use Rattle.tables.proofs.LookupLaws.{lookup-within}
-use Rattle.type_check.specs.Rule.{sourceRule}
-use Rattle.type_check.proofs.CodeLaws.{Kind, kind-read, no-kind, code-none}
-use Rattle.type_check.proofs.rules.source_reference.Statement.{statement}
-use Rattle.type_check.proofs.rules.source_reference.Tie as tie
+use Rattle.type_check.specs.Rule.{loadOffset}
+use Rattle.type_check.proofs.CodeLaws.{Kind, kind-read, code-none}
+use Rattle.type_check.proofs.rules.load_offset.Statement.{statement}
+use Rattle.type_check.proofs.rules.load_offset.Tie as tie
 
 seen : (c : tie.After-kind-at) → let a = c .before .before .before .before .before .before .args in Kind (a .regions .now) (a .name) (c .kind-at .result)
 seen c = kind-read _ _ (c .before .before .before .before .lookup-region .ensures) (c .before .before .region .given .1) (c .kind-at .ensures)
@@ -23,7 +23,7 @@ undefined-memory-reference-requires : tie.Need-undefined-memory-reference-requir
 undefined-memory-reference-requires c κs = search needs
 
 returns : tie.Need-returns
-unfolding sourceRule
+unfolding loadOffset
 returns c = rw (code-none _ _ (c .before .before .before .lookup-region .ensures) (c .before .enum-told .given .1)) (c .undefined-memory-reference .ensures)
 
 kind-at-requires : tie.Need-kind-at-requires
@@ -32,16 +32,23 @@ kind-at-requires c κs = lookup-within _ _ _ _ (sym (c .before .before .before .
 data-type-mismatch-requires : tie.Need-data-type-mismatch-requires
 data-type-mismatch-requires c κs = search needs
 
+operator-operand-mismatch-requires : tie.Need-operator-operand-mismatch-requires
+operator-operand-mismatch-requires c κs = search needs
+
 returns-2 : tie.Need-returns-2
-unfolding sourceRule
-returns-2 c = rw (seen (c .before) .code, seen (c .before) .declared, no-kind 0 (seen (c .before) .below), no-kind 1 (seen (c .before) .below), eq-eqb _ _ (c .if1 .taken))
+unfolding loadOffset
+returns-2 c = rw (seen (c .before .before) .code, seen (c .before .before) .declared, eq-eqb _ _ (c .before .match2 .keys1), eq-eqb _ _ (c .if1 .taken))
 
 returns-3 : tie.Need-returns-3
-unfolding sourceRule
-returns-3 c = rw (seen (c .before .before) .code, seen (c .before .before) .declared, no-kind 0 (seen (c .before .before) .below), no-kind 1 (seen (c .before .before) .below), ne-eqb _ _ (c .before .if1 .left)) (c .data-type-mismatch .ensures)
+unfolding loadOffset
+returns-3 c = rw (seen (c .before .before .before) .code, seen (c .before .before .before) .declared, eq-eqb _ _ (c .before .before .match2 .keys1), ne-eqb _ _ (c .before .if1 .left)) (c .data-type-mismatch .ensures)
 
-pub source-reference-spec : {M : Type 1} → statement M
-source-reference-spec =
+returns-4 : tie.Need-returns-4
+unfolding loadOffset
+returns-4 c = rw (seen (c .before .before) .code, seen (c .before .before) .declared, ne-eqb _ _ (c .before .match2 .rest .1)) (c .operator-operand-mismatch .ensures)
+
+pub load-offset-spec : {M : Type 1} → statement M
+load-offset-spec =
     tie.close
     (tie.spec
     lookup-region-requires
@@ -51,5 +58,7 @@ source-reference-spec =
     returns
     kind-at-requires
     data-type-mismatch-requires
+    operator-operand-mismatch-requires
     returns-2
-    returns-3)
+    returns-3
+    returns-4)
