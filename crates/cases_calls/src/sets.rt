@@ -4,8 +4,8 @@ use crate::good::UNTOUCHED;
 use crate::print::number;
 use crate::print::text;
 use crate::print::words;
+use access_sets::access::AccessAnswer;
 use console::access::access;
-use extern_call::access::AccessAnswer;
 
 fn print_access(answer: AccessAnswer, reads: &[u64], writes: &[u64]) {
     text(b":");
