@@ -26,7 +26,7 @@ use Rattle.extern_call.specs.declared.resolved.ResolvedCallArgument.{ResolvedCa
 use Rattle.extern_call.specs.declared.resolved.ResolvedCallArgument.the-variants.{Vector, MemoryReference, Immediate}
 use Rattle.extern_call.proofs.CallLaws.{counted-paired}
 use Rattle.extern_call.proofs.ResolvedLaws.{Facts, resolved-facts}
-use Rattle.extern_call.proofs.ResolvesLaws.{Resolving, resolves-ok, resolving-counted}
+use Rattle.extern_call.proofs.ResolvesLaws.{Resolvable, resolves-ok, resolvable-counted}
 use Rattle.call_reply.specs.Call.{replyRows, replyAt, replyLengthFits, scalarFits, indexFound, fitsRow, hits, ofResolved, scalarsFit, replyRowFits, replyFits, replyWritesFrom, replyWrites, callReady, callJudged}
 use Rattle.call_reply.specs.Reach.{FoundWithin, CellWithin, HitWithin, Hit, Replied}
 use Rattle.call_reply.specs.declared.reply.Reply.{Reply}
@@ -36,7 +36,7 @@ use Rattle.operands.proofs.AddressLaws.{index-below}
 -- ---- a CALL whose reply was judged
 
 pub record Judged (regions externs parameters arguments : List ℕ) (x : Instruction) (reply : List ℕ) (call : Call) : Type 0 where
-  pub resolving : Resolving regions externs parameters arguments x call
+  pub resolving : Resolvable regions externs parameters arguments x call
   pub scalars : scalarsFit regions parameters arguments call ≡ true
   pub fits : replyFits regions parameters arguments call reply ≡ true
 
@@ -45,7 +45,7 @@ given t n e = let (p, q) = passed t n _ _ e in (p, (cc))
 
 module _ (regions externs parameters arguments : List ℕ) (x : Instruction) (call : Call) where
   pub ready-ok : callReady regions externs parameters arguments x ≡ ok call
-      → Resolving regions externs parameters arguments x call × (scalarsFit regions parameters arguments call ≡ true)
+      → Resolvable regions externs parameters arguments x call × (scalarsFit regions parameters arguments call ≡ true)
   unfolding callReady
   ready-ok e =
       let b = bound (resolvesCall regions externs parameters arguments x) _ call e in
@@ -67,7 +67,7 @@ pub judged-replied : {regions externs parameters arguments : List ℕ} {x : Inst
 unfolding replyFits
 judged-replied {regions} {externs} {parameters} {arguments} {x} {reply} {call} few ranges j k h = record {
   few = few;
-  counted = resolving-counted regions externs parameters arguments x call ranges (j .resolving);
+  counted = resolvable-counted regions externs parameters arguments x call ranges (j .resolving);
   scalars = j .scalars;
   row = h;
   fits = every-row (replyRowFits regions parameters arguments call reply) (replyRows reply) (both (replyLengthFits reply) _ (j .fits) .1) k h;

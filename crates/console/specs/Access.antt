@@ -2,13 +2,15 @@
 use Prim.Native.Nat.{ℕ}
 use mathlib.Core.List.{List}
 use Rattle.tables.specs.Tables.{Tables}
+use Rattle.tables.specs.Family as family
 use Rattle.tables.specs.Rows.{instructionAt}
 use Rattle.loader.specs.Load.{loadRowLook}
-use Rattle.extern_call.specs.Access.{Accesses, accesses, accessCall}
+use Rattle.access_sets.specs.Access.{Accessing, accessing, accessCall}
+use Rattle.access_sets.specs.declared.access.AccessAnswer.the-variants.{Refused}
 use Rattle.console.specs.Answer.{after}
 
--- the chosen row is of family 9, a CALL
-unfoldable pub accessTables : Tables → ℕ → List ℕ → List ℕ → Accesses
+-- the chosen row is a CALL
+unfoldable pub accessTables : Tables → ℕ → List ℕ → List ℕ → Accessing
 accessTables t row reads writes =
-    after (loadRowLook t row 9) (λ number. accesses number 0 0 reads writes)
+    after (loadRowLook t row family.call) (λ number. accessing (Refused number) reads writes)
     (accessCall (t .externs) (t .parameters) (t .arguments) (instructionAt (t .instructions) row) reads writes)

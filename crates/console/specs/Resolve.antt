@@ -2,13 +2,15 @@
 use Prim.Native.Nat.{ℕ}
 use mathlib.Core.List.{List}
 use Rattle.tables.specs.Tables.{Tables}
+use Rattle.tables.specs.Family as family
 use Rattle.tables.specs.Rows.{instructionAt}
 use Rattle.loader.specs.Load.{loadRowLook}
-use Rattle.extern_call.specs.Rows.{Resolve, resolve, resolveCall}
+use Rattle.extern_call.specs.Rows.{Resolving, resolving, resolveCall}
+use Rattle.extern_call.specs.declared.rows.ResolveAnswer.the-variants.{Refused}
 use Rattle.console.specs.Answer.{after}
 
--- the chosen row is of family 9, a CALL
-unfoldable pub resolveTables : Tables → ℕ → List ℕ → Resolve
+-- the chosen row is a CALL
+unfoldable pub resolveTables : Tables → ℕ → List ℕ → Resolving
 resolveTables t row rows =
-    after (loadRowLook t row 9) (λ number. resolve number 0 rows)
+    after (loadRowLook t row family.call) (λ number. resolving (Refused number) rows)
     (resolveCall (t .regions) (t .externs) (t .parameters) (t .arguments) (instructionAt (t .instructions) row) rows)

@@ -1,7 +1,7 @@
 // The resolved arguments of one CALL, or its ordered argument errors.
 ghost use mathlib.Core.Path.{_≡_};
 ghost use Rattle.tables.specs.Tables.{tablesOf};
-ghost use Rattle.extern_call.specs.Rows.{resolveAnswer};
+ghost use Rattle.extern_call.specs.Rows.{resolving};
 ghost use Rattle.console.specs.Resolve.{resolveTables};
 use extern_call::rows::ResolveAnswer;
 use extern_call::rows::resolve_call;
@@ -20,7 +20,7 @@ pub fn resolve(
     row: usize,
     rows: &mut [u64],
 ) -> ResolveAnswer
-    ensures { λ r. ⌜ resolveAnswer r (now (rows .exit)) ≡ resolveTables (tablesOf (now (regions .entry)) (now (externs .entry)) (now (parameters .entry)) (now (nodes .entry)) (now (arguments .entry)) (now (instructions .entry))) row (now (rows .entry)) ⌝ }
+    ensures { λ r. ⌜ resolving r (now (rows .exit)) ≡ resolveTables (tablesOf (now (regions .entry)) (now (externs .entry)) (now (parameters .entry)) (now (nodes .entry)) (now (arguments .entry)) (now (instructions .entry))) row (now (rows .entry)) ⌝ }
 {
     let loaded = load_row(
         regions,

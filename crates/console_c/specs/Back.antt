@@ -7,16 +7,16 @@ use Rattle.session.specs.Back.{Back, backTables}
 use Rattle.console_c.specs.Position.{positionIn, positionAfter}
 
 -- the number returned, and memory and the position at exit
-pub record WentBack : Type 0 where
+pub record WentBackWords : Type 0 where
   pub number : ℕ
   pub memory : List ℕ
   pub position : List ℕ
 
-abbrev pub wentBack : ℕ → List ℕ → List ℕ → WentBack
-wentBack number memory position = record { number = number; memory = memory; position = position }
+abbrev pub wentBackWords : ℕ → List ℕ → List ℕ → WentBackWords
+wentBackWords number memory position = record { number = number; memory = memory; position = position }
 
-abbrev pub wentBackOf : Back → List ℕ → WentBack
-wentBackOf b position = wentBack (stepNumber (b .answer)) (b .memory) (positionAfter (b .answer) position)
+abbrev pub wentBackFor : Back → List ℕ → WentBackWords
+wentBackFor b position = wentBackWords (stepNumber (b .answer)) (b .memory) (positionAfter (b .answer) position)
 
-unfoldable pub consoleBack : Tables → List ℕ → List ℕ → List ℕ → WentBack
-consoleBack t memory journal position = wentBackOf (backTables t memory journal (positionIn position)) position
+unfoldable pub consoleBack : Tables → List ℕ → List ℕ → List ℕ → WentBackWords
+consoleBack t memory journal position = wentBackFor (backTables t memory journal (positionIn position)) position

@@ -9,17 +9,17 @@ use Rattle.console.specs.declared.check.CheckAnswer.{CheckAnswer}
 use Rattle.console.specs.declared.check.CheckAnswer.the-variants.{Accepted, Refused, Error}
 
 -- the number returned, and the out-array at exit
-pub record Checked : Type 0 where
+pub record CheckedWords : Type 0 where
   pub number : ℕ
   pub error : List ℕ
 
-abbrev pub checked : ℕ → List ℕ → Checked
-checked number error = record { number = number; error = error }
+abbrev pub checkedWords : ℕ → List ℕ → CheckedWords
+checkedWords number error = record { number = number; error = error }
 
 abbrev pub errorAfter : CheckAnswer → List ℕ → List ℕ
 errorAfter Accepted error = error
 errorAfter (Refused number) error = error
 errorAfter (Error e) error = sets error 0 (errorWords e)
 
-unfoldable pub consoleCheck : Tables → List ℕ → Checked
-consoleCheck t error = checked (checkNumber (checkTables t)) (errorAfter (checkTables t) error)
+unfoldable pub consoleCheck : Tables → List ℕ → CheckedWords
+consoleCheck t error = checkedWords (checkNumber (checkTables t)) (errorAfter (checkTables t) error)

@@ -7,17 +7,17 @@ use Rattle.session.specs.Forward.{Left, forwardTables}
 use Rattle.console_c.specs.Position.{positionIn, positionAfter}
 
 -- the number returned, and the lent words and the position at exit
-pub record Forwarded : Type 0 where
+pub record ForwardedWords : Type 0 where
   pub number : ℕ
   pub memory : List ℕ
   pub journal : List ℕ
   pub position : List ℕ
 
-abbrev pub forwarded : ℕ → List ℕ → List ℕ → List ℕ → Forwarded
-forwarded number memory journal position = record { number = number; memory = memory; journal = journal; position = position }
+abbrev pub forwardedWords : ℕ → List ℕ → List ℕ → List ℕ → ForwardedWords
+forwardedWords number memory journal position = record { number = number; memory = memory; journal = journal; position = position }
 
-abbrev pub forwardedOf : Left → List ℕ → Forwarded
-forwardedOf l position = forwarded (stepNumber (l .answer)) (l .memory) (l .journal) (positionAfter (l .answer) position)
+abbrev pub forwardedFor : Left → List ℕ → ForwardedWords
+forwardedFor l position = forwardedWords (stepNumber (l .answer)) (l .memory) (l .journal) (positionAfter (l .answer) position)
 
-unfoldable pub consoleForward : Tables → List ℕ → List ℕ → List ℕ → List ℕ → Forwarded
-consoleForward t memory journal position reply = forwardedOf (forwardTables t memory journal (positionIn position) reply) position
+unfoldable pub consoleForward : Tables → List ℕ → List ℕ → List ℕ → List ℕ → ForwardedWords
+consoleForward t memory journal position reply = forwardedFor (forwardTables t memory journal (positionIn position) reply) position

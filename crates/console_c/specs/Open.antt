@@ -17,8 +17,8 @@ pub record OpenedWords : Type 0 where
   pub position : List ℕ
   pub error : List ℕ
 
-abbrev pub opened : ℕ → List ℕ → List ℕ → List ℕ → OpenedWords
-opened number memory position error = record { number = number; memory = memory; position = position; error = error }
+abbrev pub openedWords : ℕ → List ℕ → List ℕ → List ℕ → OpenedWords
+openedWords number memory position error = record { number = number; memory = memory; position = position; error = error }
 
 -- "position on 0"
 abbrev pub firstPosition : OpenAnswer → List ℕ → List ℕ
@@ -32,9 +32,9 @@ firstError (Opened p) error = error
 firstError (Refused number) error = error
 firstError (Error e) error = sets error 0 (errorWords e)
 
-abbrev pub openedOf : Opening → List ℕ → List ℕ → OpenedWords
-openedOf o position error = opened (openNumber (o .answer)) (o .memory) (firstPosition (o .answer) position) (firstError (o .answer) error)
+abbrev pub openedFor : Opening → List ℕ → List ℕ → OpenedWords
+openedFor o position error = openedWords (openNumber (o .answer)) (o .memory) (firstPosition (o .answer) position) (firstError (o .answer) error)
 
 -- of the journal the length
 unfoldable pub consoleOpen : Tables → List ℕ → ℕ → List ℕ → List ℕ → OpenedWords
-consoleOpen t memory journal position error = openedOf (openTables t memory journal) position error
+consoleOpen t memory journal position error = openedFor (openTables t memory journal) position error

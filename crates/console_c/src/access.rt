@@ -1,32 +1,8 @@
 ghost use mathlib.Core.Path.{_≡_};
 ghost use Rattle.tables.specs.Tables.{tablesOf};
-ghost use Rattle.console_c.specs.Access.{numbersOf, accessed, consoleAccess};
+ghost use Rattle.console_c.specs.Access.{accessedWords, consoleAccess};
+use access_sets::access::AccessAnswer;
 use console::access::access;
-use extern_call::access::AccessAnswer;
-
-// The answer's number, and how many names each list has.
-pub struct Numbers {
-    pub number: u64,
-    pub read: u64,
-    pub written: u64,
-}
-
-fn numbers_of(answer: AccessAnswer) -> Numbers
-    ensures { λ r. ⌜ r ≡ numbersOf answer ⌝ }
-{
-    match answer {
-        AccessAnswer::Refused(number) => Numbers {
-            number,
-            read: 0,
-            written: 0,
-        },
-        AccessAnswer::Sets(read, written) => Numbers {
-            number: 0,
-            read: read as u64,
-            written: written as u64,
-        },
-    }
-}
 
 #[no_mangle]
 pub extern "C" fn console_access(
@@ -41,7 +17,7 @@ pub extern "C" fn console_access(
     writes: &mut [u64],
     counts: &mut [u64; 2],
 ) -> u64
-    ensures { λ r. ⌜ accessed r (now (reads .exit)) (now (writes .exit)) (now (counts .exit)) ≡ consoleAccess (tablesOf (now (regions .entry)) (now (externs .entry)) (now (parameters .entry)) (now (nodes .entry)) (now (arguments .entry)) (now (instructions .entry))) row (now (reads .entry)) (now (writes .entry)) (now (counts .entry)) ⌝ }
+    ensures { λ r. ⌜ accessedWords r (now (reads .exit)) (now (writes .exit)) (now (counts .exit)) ≡ consoleAccess (tablesOf (now (regions .entry)) (now (externs .entry)) (now (parameters .entry)) (now (nodes .entry)) (now (arguments .entry)) (now (instructions .entry))) row (now (reads .entry)) (now (writes .entry)) (now (counts .entry)) ⌝ }
 {
     let answer = access(
         regions,
@@ -54,10 +30,12 @@ pub extern "C" fn console_access(
         reads,
         writes,
     );
-    let n = numbers_of(answer);
-    if n.number == 0 {
-        counts[0] = n.read;
-        counts[1] = n.written;
+    match answer {
+        AccessAnswer::Refused(number) => number,
+        AccessAnswer::Sets(read, written) => {
+            counts[0] = read as u64;
+            counts[1] = written as u64;
+            0
+        }
     }
-    n.number
 }

@@ -1,6 +1,6 @@
 ghost use mathlib.Core.Path.{_≡_};
 ghost use Rattle.tables.specs.Tables.{tablesOf};
-ghost use Rattle.console_c.specs.Back.{wentBack, consoleBack};
+ghost use Rattle.console_c.specs.Back.{wentBackWords, consoleBack};
 use crate::position::position_in;
 use crate::position::write_position;
 use console::back::back;
@@ -18,7 +18,7 @@ pub extern "C" fn console_back(
     journal: &[u64],
     position: &mut [u64; 2],
 ) -> u64
-    ensures { λ r. ⌜ wentBack r (now (memory .exit)) (now (position .exit)) ≡ consoleBack (tablesOf (now (regions .entry)) (now (externs .entry)) (now (parameters .entry)) (now (nodes .entry)) (now (arguments .entry)) (now (instructions .entry))) (now (memory .entry)) (now (journal .entry)) (now (position .entry)) ⌝ }
+    ensures { λ r. ⌜ wentBackWords r (now (memory .exit)) (now (position .exit)) ≡ consoleBack (tablesOf (now (regions .entry)) (now (externs .entry)) (now (parameters .entry)) (now (nodes .entry)) (now (arguments .entry)) (now (instructions .entry))) (now (memory .entry)) (now (journal .entry)) (now (position .entry)) ⌝ }
 {
     let old = position_in(position);
     let answer = back(

@@ -3,7 +3,7 @@ ghost use mathlib.Core.List.{List, [], _∷_};
 ghost use lib.Seq.{sets};
 ghost use Rattle.tables.specs.Tables.{tablesOf};
 ghost use Rattle.type_check.specs.Check.{errorWords};
-ghost use Rattle.console_c.specs.Check.{checked, consoleCheck};
+ghost use Rattle.console_c.specs.Check.{checkedWords, consoleCheck};
 use console::check::CheckAnswer;
 use console::check::check;
 use tables::refusal::TYPE_ERROR;
@@ -30,7 +30,7 @@ pub extern "C" fn console_check(
     instructions: &[u64],
     error: &mut [u64; 6],
 ) -> u64
-    ensures { λ r. ⌜ checked r (now (error .exit)) ≡ consoleCheck (tablesOf (now (regions .entry)) (now (externs .entry)) (now (parameters .entry)) (now (nodes .entry)) (now (arguments .entry)) (now (instructions .entry))) (now (error .entry)) ⌝ }
+    ensures { λ r. ⌜ checkedWords r (now (error .exit)) ≡ consoleCheck (tablesOf (now (regions .entry)) (now (externs .entry)) (now (parameters .entry)) (now (nodes .entry)) (now (arguments .entry)) (now (instructions .entry))) (now (error .entry)) ⌝ }
 {
     let answer = check(regions, externs, parameters, nodes, arguments, instructions);
     match answer {

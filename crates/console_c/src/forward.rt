@@ -1,6 +1,6 @@
 ghost use mathlib.Core.Path.{_≡_};
 ghost use Rattle.tables.specs.Tables.{tablesOf};
-ghost use Rattle.console_c.specs.Forward.{forwarded, consoleForward};
+ghost use Rattle.console_c.specs.Forward.{forwardedWords, consoleForward};
 use crate::position::position_in;
 use crate::position::write_position;
 use console::forward::forward;
@@ -19,7 +19,7 @@ pub extern "C" fn console_forward(
     position: &mut [u64; 2],
     reply: &[u64],
 ) -> u64
-    ensures { λ r. ⌜ forwarded r (now (memory .exit)) (now (journal .exit)) (now (position .exit)) ≡ consoleForward (tablesOf (now (regions .entry)) (now (externs .entry)) (now (parameters .entry)) (now (nodes .entry)) (now (arguments .entry)) (now (instructions .entry))) (now (memory .entry)) (now (journal .entry)) (now (position .entry)) (now (reply .entry)) ⌝ }
+    ensures { λ r. ⌜ forwardedWords r (now (memory .exit)) (now (journal .exit)) (now (position .exit)) ≡ consoleForward (tablesOf (now (regions .entry)) (now (externs .entry)) (now (parameters .entry)) (now (nodes .entry)) (now (arguments .entry)) (now (instructions .entry))) (now (memory .entry)) (now (journal .entry)) (now (position .entry)) (now (reply .entry)) ⌝ }
 {
     let old = position_in(position);
     let answer = forward(

@@ -1,7 +1,7 @@
 ghost use mathlib.Core.Path.{_≡_};
 ghost use lib.ListN.{length};
 ghost use Rattle.tables.specs.Tables.{tablesOf};
-ghost use Rattle.console_c.specs.Open.{opened, consoleOpen};
+ghost use Rattle.console_c.specs.Open.{openedWords, consoleOpen};
 use crate::check::write_error;
 use crate::position::write_position;
 use console::open::open;
@@ -21,7 +21,7 @@ pub extern "C" fn console_open(
     position: &mut [u64; 2],
     error: &mut [u64; 6],
 ) -> u64
-    ensures { λ r. ⌜ opened r (now (memory .exit)) (now (position .exit)) (now (error .exit)) ≡ consoleOpen (tablesOf (now (regions .entry)) (now (externs .entry)) (now (parameters .entry)) (now (nodes .entry)) (now (arguments .entry)) (now (instructions .entry))) (now (memory .entry)) (length (now (journal .entry))) (now (position .entry)) (now (error .entry)) ⌝ }
+    ensures { λ r. ⌜ openedWords r (now (memory .exit)) (now (position .exit)) (now (error .exit)) ≡ consoleOpen (tablesOf (now (regions .entry)) (now (externs .entry)) (now (parameters .entry)) (now (nodes .entry)) (now (arguments .entry)) (now (instructions .entry))) (now (memory .entry)) (length (now (journal .entry))) (now (position .entry)) (now (error .entry)) ⌝ }
 {
     let answer = open(
         regions,

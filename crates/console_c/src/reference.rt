@@ -3,7 +3,7 @@ ghost use Prim.Native.Nat.{ℕ};
 ghost use mathlib.Core.List.{List, [], _∷_};
 ghost use lib.Seq.{sets};
 ghost use Rattle.console.specs.References.{foundWords};
-ghost use Rattle.console_c.specs.Reference.{referred, consoleReference};
+ghost use Rattle.console_c.specs.Reference.{referredWords, consoleReference};
 use console::references::WalkAnswer;
 use console::references::memory_references;
 use memory::Next;
@@ -33,9 +33,10 @@ pub extern "C" fn console_reference(
     place: &mut [u64; 1],
     found: &mut [u64; 3],
 ) -> u64
-    ensures { λ r. ⌜ referred r (now (place .exit)) (now (found .exit)) ≡ consoleReference (now (nodes .entry)) first «node_count» (now (place .entry)) (now (found .entry)) ⌝ }
+    ensures { λ r. ⌜ referredWords r (now (place .exit)) (now (found .exit)) ≡ consoleReference (now (nodes .entry)) first «node_count» (now (place .entry)) (now (found .entry)) ⌝ }
 {
-    let answer = memory_references(nodes, first, node_count, place[0] as usize);
+    let old = place[0];
+    let answer = memory_references(nodes, first, node_count, old as usize);
     match answer {
         WalkAnswer::Refused(number) => number,
         WalkAnswer::Went(step) => {

@@ -1,31 +1,9 @@
 ghost use mathlib.Core.Path.{_≡_};
 ghost use Rattle.tables.specs.Tables.{tablesOf};
-ghost use Rattle.console_c.specs.Resolve.{numbersOf, resolved, consoleResolve};
+ghost use Rattle.console_c.specs.Resolve.{resolvedWords, consoleResolve};
 use console::resolve::resolve;
 use extern_call::rows::ResolveAnswer;
 use tables::refusal::ARGUMENT_ERRORS;
-
-// The answer's number, and how many rows were written.
-pub struct Numbers {
-    pub number: u64,
-    pub count: u64,
-}
-
-fn numbers_of(answer: ResolveAnswer) -> Numbers
-    ensures { λ r. ⌜ r ≡ numbersOf answer ⌝ }
-{
-    match answer {
-        ResolveAnswer::Refused(number) => Numbers { number, count: 0 },
-        ResolveAnswer::Errors(count) => Numbers {
-            number: ARGUMENT_ERRORS,
-            count: count as u64,
-        },
-        ResolveAnswer::Resolved(count) => Numbers {
-            number: 0,
-            count: count as u64,
-        },
-    }
-}
 
 #[no_mangle]
 pub extern "C" fn console_resolve(
@@ -39,7 +17,7 @@ pub extern "C" fn console_resolve(
     rows: &mut [u64],
     count: &mut [u64; 1],
 ) -> u64
-    ensures { λ r. ⌜ resolved r (now (rows .exit)) (now (count .exit)) ≡ consoleResolve (tablesOf (now (regions .entry)) (now (externs .entry)) (now (parameters .entry)) (now (nodes .entry)) (now (arguments .entry)) (now (instructions .entry))) row (now (rows .entry)) (now (count .entry)) ⌝ }
+    ensures { λ r. ⌜ resolvedWords r (now (rows .exit)) (now (count .exit)) ≡ consoleResolve (tablesOf (now (regions .entry)) (now (externs .entry)) (now (parameters .entry)) (now (nodes .entry)) (now (arguments .entry)) (now (instructions .entry))) row (now (rows .entry)) (now (count .entry)) ⌝ }
 {
     let answer = resolve(
         regions,
@@ -51,9 +29,15 @@ pub extern "C" fn console_resolve(
         row as usize,
         rows,
     );
-    let n = numbers_of(answer);
-    if (n.number == 0) | (n.number == ARGUMENT_ERRORS) {
-        count[0] = n.count;
+    match answer {
+        ResolveAnswer::Refused(number) => number,
+        ResolveAnswer::Errors(errors) => {
+            count[0] = errors as u64;
+            ARGUMENT_ERRORS
+        }
+        ResolveAnswer::Resolved(resolved) => {
+            count[0] = resolved as u64;
+            0
+        }
     }
-    n.number
 }

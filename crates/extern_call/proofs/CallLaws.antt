@@ -4,8 +4,8 @@ use mathlib.Core.Path.{_≡_, refl}
 use mathlib.Core.Bool.{Bool, true, false, cond}
 use mathlib.Core.List.{List}
 use native.Mathlib.Omega.{arith}
-use borrow.Author.Tests.{eqb-false, ltb-true, ltb-false}
-use lib.Dec.{eqb, ltb}
+use borrow.Author.Tests.{eqb-false}
+use lib.Dec.{eqb}
 use Rattle.tables.specs.Outcome.{ok, _>>=_}
 use Rattle.tables.specs.Rows.{instructionRows, externAt, instructionAt}
 use Rattle.tables.specs.Lookup.{lookupExtern}
@@ -15,8 +15,7 @@ use Rattle.tables.specs.declared.rows.Instruction.{Instruction}
 use Rattle.tables.specs.Tables.{Tables}
 use Rattle.loader.proofs.Loaded.{Loaded, call-arguments, extern-parameters}
 use Rattle.tables.proofs.LookupLaws.{extern-row}
-use Rattle.extern_call.specs.Call.{callOf, foundExtern, findCall, arityOf, placeOf, CallRanges, Ranges, Counted, Paired}
-use Rattle.extern_call.specs.Access.{lowerOf, pairedCount}
+use Rattle.extern_call.specs.Call.{callOf, foundExtern, findCall, expectedCount, placeOf, CallRanges, Ranges, Counted, Paired}
 use Rattle.extern_call.specs.declared.call.Call.{Call}
 use Rattle.extern_call.specs.declared.call.Place.the-variants.{Return, Parameter}
 
@@ -56,20 +55,9 @@ place-below false true i k n e h p = let z : _≡_ {A = ℕ} 0 1 = cc in absurd 
 place-below false false i k n e h p = let q : i - 1 ≡ k = cc in omega (arith, eqb-false i 0 e)
 
 -- the parameter of an argument that has one
-pub place-within : (call : Call) (i k : ℕ) → i < arityOf call → placeOf call i ≡ Parameter k → k < call .«parameter_count»
-unfolding arityOf placeOf
+pub place-within : (call : Call) (i k : ℕ) → i < expectedCount call → placeOf call i ≡ Parameter k → k < call .«parameter_count»
+unfolding expectedCount placeOf
 place-within call i k h p = place-below (eqb (call .«return_kind») 4) (eqb i 0) i k (call .«parameter_count») refl h p
 
 pub counted-paired : {parameters arguments : List ℕ} {call : Call} (i : ℕ) → Counted parameters arguments call → i < call .«argument_count» → Paired parameters arguments call i
 counted-paired i c h = record { ranges = c .ranges; argument = h; wanted = rw (c .count) at h }
-
-lower-below : (b : Bool) (i x y : ℕ) → ltb x y ≡ b → i < cond b x y → (i < x) × (i < y)
-lower-below true i x y e h = (h, omega (arith, ltb-true x y e))
-lower-below false i x y e h = (omega (arith, ltb-false x y e), h)
-
-pub paired-below : (call : Call) (i : ℕ) → i < pairedCount call → (i < call .«argument_count») × (i < arityOf call)
-unfolding pairedCount lowerOf
-paired-below call i h = lower-below (ltb (call .«argument_count») (arityOf call)) i (call .«argument_count») (arityOf call) refl h
-
-pub ranges-paired : {parameters arguments : List ℕ} {call : Call} (i : ℕ) → Ranges parameters arguments call → i < pairedCount call → Paired parameters arguments call i
-ranges-paired {call = call} i r h = let b = paired-below call i h in record { ranges = r; argument = b .0; wanted = b .1 }

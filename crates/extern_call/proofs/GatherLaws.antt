@@ -9,7 +9,8 @@ use lib.ListN.{length, getD, set, drop, length-append, drop-of-length-le}
 use lib.Seq.{sets, drop-cons}
 use Rattle.tables.proofs.FirstLaws.{left-suc}
 use Rattle.extern_call.specs.Gather.{gather, flat}
-use Rattle.extern_call.specs.Rows.{Stored, resolve, withRows}
+use Rattle.extern_call.specs.Rows.{Stored, resolving, withRows}
+use Rattle.extern_call.specs.declared.rows.ResolveAnswer.{ResolveAnswer}
 
 module _ {A : Type 0} (f : ℕ → List A) (n i : ℕ) where
   pub gather-turn : i < n → gather f i (n - i) ≡ f i ++ gather f (i + 1) (n - (i + 1))
@@ -49,8 +50,11 @@ module _ {A : Type 0} (row : A → List ℕ) (width count : ℕ) (l : List ℕ) 
   unfolding flat
   one-stored a l′ e = record { total = refl; words = rw append-nil e }
 
--- the rows before i are written: to write the rest from here gives what to write all gives from the start
+-- the rows of the arguments before i are written, at most one each: to write the rest from here gives what to write all gives from the start
 pub record Written {A : Type 0} (row : A → List ℕ) (width : ℕ) (f : ℕ → List A) (n : ℕ) (before now : List ℕ) (count i : ℕ) : Type 0 where
+  pub turns : i ≤ n
+  pub few : count ≤ i
+  pub same : length now ≡ length before
   pub rest : sets now (count * width) (flat row (gather f i (n - i))) ≡ sets before 0 (flat row (gather f 0 n))
   pub total : count + length (gather f i (n - i)) ≡ length (gather f 0 n)
 
@@ -58,15 +62,19 @@ module _ {A : Type 0} (row : A → List ℕ) (width : ℕ) (f : ℕ → List A) 
   pub written-start : Written row width f n before before 0 0
   written-start =
       let z : 0 * width ≡ 0 = omega arith in
-      record { rest = rw (z, gather-all f n); total = rw (gather-all f n) (omega arith) }
+      record { turns = omega arith; few = omega arith; same = refl; rest = rw (z, gather-all f n); total = rw (gather-all f n) (omega arith) }
 
-  pub written-turn : (now now′ : List ℕ) (count count′ i : ℕ) → i < n → length (flat row (f i)) ≡ length (f i) * width
-      → Written row width f n before now count i → Stored row width count (f i) now now′ count′ → Written row width f n before now′ count′ (i + 1)
-  written-turn now now′ count count′ i h wide w s =
+  pub written-turn : (now now′ : List ℕ) (count count′ i : ℕ) → i < n → length (f i) ≤ 1 → length (flat row (f i)) ≡ length (f i) * width
+      → Written row width f n before now count i → length now′ ≡ length now → Stored row width count (f i) now now′ count′
+      → Written row width f n before now′ count′ (i + 1)
+  written-turn now now′ count count′ i h one wide w kept s =
       let rest = gather f (i + 1) (n - (i + 1)) in
       let at : count′ * width ≡ count * width + length (flat row (f i)) = rw (s .total, add-mul, wide) in
       let t : count + length (f i ++ rest) ≡ length (gather f 0 n) = rw (← gather-turn f n i h) (w .total) in
       record {
+        turns = omega arith;
+        few = omega (arith, w .few, s .total);
+        same = kept ∙ w .same;
         rest =
             rw (at, s .words, ← sets-append (flat row (f i)) (flat row rest) now (count * width), ← flat-append row (f i) rest, ← gather-turn f n i h)
             (w .rest);
@@ -83,9 +91,9 @@ module _ {A : Type 0} (row : A → List ℕ) (width : ℕ) (f : ℕ → List A) 
       }
 
 -- a whole CALL's rows, as resolve gives them
-pub all-stored : {A : Type 0} (row : A → List ℕ) (width number : ℕ) (items : List A) (entry exit : List ℕ) (n : ℕ)
-    → Stored row width 0 items entry exit n → resolve number n exit ≡ withRows number row items entry
-all-stored row width number items entry exit n s =
+pub all-stored : {A : Type 0} (row : A → List ℕ) (width : ℕ) (answer : ℕ → ResolveAnswer) (items : List A) (entry exit : List ℕ) (n : ℕ)
+    → Stored row width 0 items entry exit n → resolving (answer n) exit ≡ withRows answer row items entry
+all-stored row width answer items entry exit n s =
     let z : 0 * width ≡ 0 = omega arith in
     let e : n ≡ length items = omega (arith, s .total) in
     let w : exit ≡ sets entry 0 (flat row items) = rw z at (s .words) in

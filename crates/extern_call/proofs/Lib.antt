@@ -2,8 +2,5 @@
 pub mod GatherLaws
 pub mod RowLaws
 pub mod CallLaws
-pub mod SetLaws
-pub mod PlaceLaws
-pub mod InsertLaws
 pub mod ResolvedLaws
 pub mod ResolvesLaws

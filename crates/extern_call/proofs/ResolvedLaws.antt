@@ -1,23 +1,22 @@
--- What a resolved argument says: its region is declared with that kind, a vector's length is the region's, and where it is mutable its name is in the write set. Assumes nothing.
-use Prim.Native.Nat.{ℕ, _+_, _<_}
-use mathlib.Core.Path.{_≡_, refl, _∙_}
+-- What a resolved argument says: its region is declared with that kind, and a vector's length is the region's. Assumes nothing.
+use Prim.Native.Nat.{ℕ, _+_}
+use mathlib.Core.Path.{_≡_, refl}
 use mathlib.Core.Bool.{Bool, true, false, cond}
 use mathlib.Core.List.{List, [], _∷_}
-use borrow.Author.Tests.{ne-eqb, eqb-true}
+use borrow.Author.Tests.{eqb-true}
 use lib.Dec.{eqb}
 use Rattle.tables.specs.Rows.{regionKind, regionLength, regionAt, parameterAt, argumentAt}
 use Rattle.tables.specs.Lookup.{lookupRegion}
+use Rattle.tables.specs.Cases.{caseOf}
 use Rattle.tables.specs.declared.lookup.Found.{Found}
 use Rattle.tables.specs.declared.lookup.Found.the-variants.{At, Nothing}
 use Rattle.tables.specs.declared.rows.Argument.{Argument}
 use Rattle.tables.specs.declared.rows.Parameter.{Parameter}
 use Rattle.loader.proofs.Loaded.{both}
-use Rattle.extern_call.specs.Argument.{argumentOf, namesOf, indexOf}
+use Rattle.extern_call.specs.Argument.{argumentOf, argumentNames, argumentIndex}
 use Rattle.extern_call.specs.Vectors.{sameVector, declaredVector, expectedVector}
-use Rattle.extern_call.specs.Resolved.{resolvedName, resolvedMutable}
 use Rattle.extern_call.specs.Resolve.{declared, scalarOf, fixedOf, variableOf, identifierOf, byArgument, resolveArgument, byReturn, resolveReturn}
 use Rattle.extern_call.specs.Call.{placeOf, ofReturn, ofParameter, resolutionFor, resolutionAt}
-use Rattle.extern_call.specs.Access.{namesIn, writtenFor, writtenAt, pairedCount, accessOf, has}
 use Rattle.extern_call.specs.declared.vector.Vector.{Vector}
 use Rattle.extern_call.specs.declared.argument.UnresolvedCallArgument.{UnresolvedCallArgument}
 use Rattle.extern_call.specs.declared.argument.UnresolvedCallArgument.the-variants.{Identifier, Reference, Immediate}
@@ -30,8 +29,6 @@ use Rattle.extern_call.specs.declared.call.Place.{Place}
 use Rattle.extern_call.specs.declared.call.Place.the-variants as P
 use Rattle.extern_call.specs.declared.call.CallResolution.{CallResolution}
 use Rattle.extern_call.specs.declared.call.CallResolution.the-variants.{Resolved, Failed}
-use Rattle.extern_call.specs.declared.access.Access.the-variants.{Write}
-use Rattle.extern_call.proofs.SetLaws.{added-has}
 
 -- a property of the resolved argument, where there is one
 module _ (Q : ResolvedCallArgument → Type 0) where
@@ -63,23 +60,23 @@ pub record DeclaresVector (regions : List ℕ) (name : ℕ) (v : Vector) : Type 
 -- what a resolved argument says, a the argument that it comes from, m the mutable word of its parameter
 module _ (regions : List ℕ) (a : UnresolvedCallArgument) (m : ℕ) where
   pub record VectorFacts (name : ℕ) (v : Vector) (mutable : ℕ) : Type 0 where
-    pub names : namesOf a ≡ name ∷ []
+    pub names : argumentNames a ≡ name ∷ []
     pub mutability : mutable ≡ m
     pub declares : DeclaresVector regions name v
 
   pub record ReferenceFacts (name index kind mutable : ℕ) : Type 0 where
-    pub names : namesOf a ≡ name ∷ []
+    pub names : argumentNames a ≡ name ∷ []
     pub mutability : mutable ≡ m
     pub declares : Declares regions name kind
-    pub place : indexOf a ≡ index
+    pub place : argumentIndex a ≡ index
 
   abbrev pub Facts : ResolvedCallArgument → Type 0
   Facts (R.Vector name v mutable) = VectorFacts name v mutable
   Facts (R.MemoryReference name index kind mutable) = ReferenceFacts name index kind mutable
   Facts (R.Immediate real imaginary kind) = m ≡ 0
 
-module _ (regions : List ℕ) (a : UnresolvedCallArgument) (name m : ℕ) (names : namesOf a ≡ name ∷ []) where
-  scalar-facts : (index kind : ℕ) → indexOf a ≡ index → Gives (Facts regions a m) (scalarOf regions name index kind m)
+module _ (regions : List ℕ) (a : UnresolvedCallArgument) (name m : ℕ) (names : argumentNames a ≡ name ∷ []) where
+  scalar-facts : (index kind : ℕ) → argumentIndex a ≡ index → Gives (Facts regions a m) (scalarOf regions name index kind m)
   unfolding scalarOf
   scalar-facts index kind place =
       gives-declared (Facts regions a m) (lookupRegion regions name) name _
@@ -107,7 +104,7 @@ module _ (regions : List ℕ) (a : UnresolvedCallArgument) (name m : ℕ) (names
 
 argument-facts : (regions : List ℕ) (row : Argument) (p : Parameter) (a : UnresolvedCallArgument)
     → Gives (Facts regions a (p .mutable)) (byArgument regions row p a)
-unfolding identifierOf
+unfolding identifierOf caseOf
 argument-facts regions row p (Identifier name) =
     let F = Facts regions (Identifier name) (p .mutable) in
     gives-cond F (eqb (p .shape) 0) _ _ (λ t. scalar-facts regions (Identifier name) name (p .mutable) refl 0 (p .kind) refl)
@@ -158,24 +155,3 @@ module _ (regions parameters arguments : List ℕ) (call : Call) (i : ℕ) where
       → Facts regions (argumentOf (argumentAt arguments (call .«first_argument» + i))) (mutableFor parameters call (placeOf call i)) r
   unfolding row resolutionAt
   resolved-facts r e = rw e at (place-facts (placeOf call i))
-
-written-mutable : (parameters : List ℕ) (call : Call) (p : Place) → (mutableFor parameters call p ≡ 0 → ⊥) → writtenFor parameters call p ≡ true
-written-mutable parameters call P.Return h = refl
-written-mutable parameters call (P.Parameter k) h = rw (ne-eqb _ _ h)
-
-facts-named : (regions : List ℕ) (a : UnresolvedCallArgument) (m : ℕ) (r : ResolvedCallArgument) → Facts regions a m r → (resolvedMutable r ≡ 0 → ⊥)
-    → (namesOf a ≡ resolvedName r ∷ []) × (m ≡ 0 → ⊥)
-facts-named regions a m (R.Vector name v mutable) f h = (f .names, λ e. h (f .mutability ∙ e))
-facts-named regions a m (R.MemoryReference name index kind mutable) f h = (f .names, λ e. h (f .mutability ∙ e))
-facts-named regions a m (R.Immediate real imaginary kind) f h = absurd (h refl)
-
--- the name of a mutable resolved argument is in the write set
-pub mutable-written : (regions parameters arguments : List ℕ) (call : Call) (i : ℕ) (r : ResolvedCallArgument) → i < pairedCount call
-    → resolutionAt regions parameters arguments call i ≡ Resolved r → (resolvedMutable r ≡ 0 → ⊥)
-    → has (resolvedName r) (accessOf parameters arguments call Write) ≡ true
-unfolding namesIn writtenAt
-mutable-written regions parameters arguments call i r h e d =
-    let f = facts-named regions (argumentOf (argumentAt arguments (call .«first_argument» + i))) (mutableFor parameters call (placeOf call i)) r
-    (resolved-facts regions parameters arguments call i r e) d in
-    added-has parameters arguments call Write (resolvedName r) i h
-    (rw (written-mutable parameters call (placeOf call i) (f .1)) (f .0))

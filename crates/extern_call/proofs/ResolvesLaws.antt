@@ -1,11 +1,10 @@
 -- What `resolvesCall` says of a CALL that resolves, and where its resolved rows stand. Assumes nothing.
 use Prim.Native.Nat.{ℕ, zero, suc, _+_, _*_, _<_}
 use mathlib.Core.Path.{_≡_, refl, _∙_}
-use mathlib.Core.Bool.{Bool, true, false, cond}
+use mathlib.Core.Bool.{true}
 use mathlib.Core.List.{List, append-nil}
 use native.Mathlib.Omega.{arith}
 use borrow.Author.Tests.{eqb-true}
-use lib.Dec.{ltb}
 use lib.ListN.{length, getD, length-append, List·getD-append}
 use lib.Seq.{getD-append-add}
 use Rattle.tables.specs.Refusal.{argumentCount, argumentErrors}
@@ -13,11 +12,10 @@ use Rattle.tables.specs.Outcome.{Outcome, ok, refuse, _>>=_, _>>_, need}
 use Rattle.tables.specs.declared.rows.Instruction.{Instruction}
 use Rattle.loader.proofs.Loaded.{passed}
 use Rattle.tables.proofs.FirstLaws.{every-row}
-use Rattle.extern_call.specs.Call.{findCall, arityOf, isCounted, isResolved, resolutionAt, allResolve, resolvesCall, CallRanges, Counted}
+use Rattle.extern_call.specs.Call.{findCall, expectedCount, isCounted, isResolved, resolutionAt, allResolve, resolvesCall, CallRanges, Counted}
 use Rattle.extern_call.specs.Resolved.{resolvedRow}
 use Rattle.extern_call.specs.Gather.{gather, flat}
-use Rattle.extern_call.specs.Rows.{resolvedIn, resolvedOf}
-use Rattle.extern_call.specs.Access.{lowerOf, pairedCount}
+use Rattle.extern_call.specs.Rows.{resolvedIn, resolvedArguments}
 use Rattle.extern_call.specs.declared.resolved.ResolvedCallArgument.{ResolvedCallArgument}
 use Rattle.extern_call.specs.declared.call.Call.{Call}
 use Rattle.extern_call.specs.declared.call.CallResolution.{CallResolution}
@@ -27,29 +25,29 @@ use Rattle.extern_call.proofs.RowLaws.{resolved-width}
 use Rattle.extern_call.proofs.CallLaws.{call-ranges}
 
 -- a CALL all of whose arguments resolve
-pub record Resolving (regions externs parameters arguments : List ℕ) (x : Instruction) (call : Call) : Type 0 where
+pub record Resolvable (regions externs parameters arguments : List ℕ) (x : Instruction) (call : Call) : Type 0 where
   pub found : findCall externs x ≡ ok call
-  pub count : call .«argument_count» ≡ arityOf call
+  pub count : call .«argument_count» ≡ expectedCount call
   pub all : allResolve regions parameters arguments call ≡ true
 
 module _ (regions externs parameters arguments : List ℕ) (x : Instruction) (call : Call) where
   resolves-by : (o : Outcome Call) → findCall externs x ≡ o
       → (o >>= (λ c. need (isCounted c) argumentCount >> (need (allResolve regions parameters arguments c) argumentErrors >> ok c))) ≡ ok call
-      → Resolving regions externs parameters arguments x call
+      → Resolvable regions externs parameters arguments x call
   unfolding _>>=_
   resolves-by (refuse n) f e = let z : _≡_ {A = ℕ} 0 1 = cc in absurd (omega arith)
   resolves-by (ok c) f e =
       let (counted, e₁) = passed (isCounted c) _ _ _ e in
       let (all, e₂) = passed (allResolve regions parameters arguments c) _ _ _ e₁ in
       let same : c ≡ call = cc in
-      record { found = f ∙ e₂; count = rw same at (eqb-true (c .«argument_count») (arityOf c) counted); all = rw same at all }
+      record { found = f ∙ e₂; count = rw same at (eqb-true (c .«argument_count») (expectedCount c) counted); all = rw same at all }
 
-  pub resolves-ok : resolvesCall regions externs parameters arguments x ≡ ok call → Resolving regions externs parameters arguments x call
+  pub resolves-ok : resolvesCall regions externs parameters arguments x ≡ ok call → Resolvable regions externs parameters arguments x call
   unfolding resolvesCall
   resolves-ok e = resolves-by (findCall externs x) refl e
 
-  pub resolving-counted : CallRanges externs parameters arguments x → Resolving regions externs parameters arguments x call → Counted parameters arguments call
-  resolving-counted r s = record { ranges = call-ranges r (s .found); count = s .count }
+  pub resolvable-counted : CallRanges externs parameters arguments x → Resolvable regions externs parameters arguments x call → Counted parameters arguments call
+  resolvable-counted r s = record { ranges = call-ranges r (s .found); count = s .count }
 
 -- items that are there once a row
 ones-length : {A : Type 0} (f : ℕ → List A) (i n : ℕ) → ((k : ℕ) → k < n → length (f (i + k)) ≡ 1) → length (gather f i n) ≡ n
@@ -99,26 +97,17 @@ module _ (regions parameters arguments : List ℕ) (call : Call) (all : allResol
   each i h = rw (all-resolved i h .resolved)
 
   -- so there are as many resolved rows as arguments
-  pub resolved-count : length (resolvedOf regions parameters arguments call) ≡ call .«argument_count»
-  unfolding resolvedOf
+  pub resolved-count : length (resolvedArguments regions parameters arguments call) ≡ call .«argument_count»
+  unfolding resolvedArguments
   resolved-count = ones-length (λ i. resolvedIn (resolutionAt regions parameters arguments call i)) 0 (call .«argument_count»)
       (λ i h. (let z : 0 + i ≡ i = omega arith in rw z (each i h)))
 
   -- and row i stands at word 5 i
   pub row-word : (i j : ℕ) (a : ResolvedCallArgument) → i < call .«argument_count» → j < 5 → resolutionAt regions parameters arguments call i ≡ Resolved a
-      → getD (flat resolvedRow (resolvedOf regions parameters arguments call)) (i * 5 + j) 0 ≡ getD (resolvedRow a) j 0
-  unfolding resolvedOf flat
+      → getD (flat resolvedRow (resolvedArguments regions parameters arguments call)) (i * 5 + j) 0 ≡ getD (resolvedRow a) j 0
+  unfolding resolvedArguments flat
   row-word i j a h g e =
       let z : 0 + i ≡ i = omega arith in
       let w = five-at (λ k. resolvedIn (resolutionAt regions parameters arguments call k)) 0 (call .«argument_count») i j
       (λ k l. (let y : 0 + k ≡ k = omega arith in rw y (rw (each k l) at (resolved-width (resolutionAt regions parameters arguments call k))))) h g in
       w ∙ rw (z, e, append-nil)
-
--- an argument within the right count is the return's or a parameter's
-pub below-paired : (call : Call) (i : ℕ) → i < call .«argument_count» → i < arityOf call → i < pairedCount call
-unfolding pairedCount lowerOf
-below-paired call i h g = at (ltb (call .«argument_count») (arityOf call))
-  where
-    at : (b : Bool) → i < cond b (call .«argument_count») (arityOf call)
-    at true = h
-    at false = g

@@ -1,8 +1,8 @@
 -- 01, Tables: "Argument (1,024): form, two words. 0 identifier (name), 1 reference (name, index), 2 immediate; an immediate is a complex number of two binary64 parts."
 use Prim.Native.Nat.{ℕ}
-use mathlib.Core.Bool.{cond}
 use mathlib.Core.List.{List, [], _∷_}
-use lib.Dec.{eqb}
+use Rattle.tables.specs.ArgumentForm as form
+use Rattle.tables.specs.Cases.{caseOf}
 use Rattle.tables.specs.declared.rows.Argument.{Argument}
 use Rattle.words.specs.Real.{realValue}
 use Rattle.extern_call.specs.declared.argument.UnresolvedCallArgument.{UnresolvedCallArgument}
@@ -10,18 +10,20 @@ use Rattle.extern_call.specs.declared.argument.UnresolvedCallArgument.th
 
 unfoldable pub argumentOf : Argument → UnresolvedCallArgument
 argumentOf row =
-    cond (eqb (row .form) 0) (Identifier (row .first))
-    (cond (eqb (row .form) 1) (Reference (row .first) (row .second))
-    (Immediate (realValue (row .first)) (realValue (row .second))))
+    caseOf (row .form)
+    ((form.identifier, Identifier (row .first))
+    ∷ (form.reference, Reference (row .first) (row .second))
+    ∷ [])
+    (Immediate (realValue (row .first)) (realValue (row .second)))
 
 -- the names in an argument: one of an identifier or a reference; "an immediate adds nothing"
-abbrev pub namesOf : UnresolvedCallArgument → List ℕ
-namesOf (Identifier name) = name ∷ []
-namesOf (Reference name index) = name ∷ []
-namesOf (Immediate x y) = []
+abbrev pub argumentNames : UnresolvedCallArgument → List ℕ
+argumentNames (Identifier name) = name ∷ []
+argumentNames (Reference name index) = name ∷ []
+argumentNames (Immediate x y) = []
 
 -- its index for a scalar: "An identifier for a scalar, or for the return, means index 0"
-abbrev pub indexOf : UnresolvedCallArgument → ℕ
-indexOf (Identifier name) = 0
-indexOf (Reference name index) = index
-indexOf (Immediate x y) = 0
+abbrev pub argumentIndex : UnresolvedCallArgument → ℕ
+argumentIndex (Identifier name) = 0
+argumentIndex (Reference name index) = index
+argumentIndex (Immediate x y) = 0

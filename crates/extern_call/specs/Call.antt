@@ -5,6 +5,7 @@ use mathlib.Core.Bool.{Bool, true, false, cond}
 use mathlib.Core.List.{List}
 use lib.Dec.{eqb}
 use Rattle.tables.specs.First.{every}
+use Rattle.tables.specs.ParameterShape.{noReturn}
 use Rattle.tables.specs.Refusal.{externNotFound, argumentCount, argumentErrors}
 use Rattle.tables.specs.Outcome.{Outcome, ok, refuse, _>>=_, _>>_, need}
 use Rattle.tables.specs.Rows.{externRows, parameterRows, argumentRows, externAt, parameterAt, argumentAt}
@@ -26,10 +27,6 @@ use Rattle.extern_call.specs.declared.call.CallResolution.{CallResolutio
 use Rattle.extern_call.specs.declared.call.CallResolution.the-variants.{Resolved, Failed}
 use Rattle.extern_call.specs.declared.call.CallAnswer.{CallAnswer}
 use Rattle.extern_call.specs.declared.call.CallAnswer.the-variants as A
-
--- "return kind or 4 for none"
-abbrev pub noReturn : ℕ
-noReturn = 4
 
 -- "9 call: words 3 to 5 are extern name, first argument, count." With the extern's "return kind .., first parameter row, parameter count".
 abbrev pub callOf : Extern → Instruction → Call
@@ -57,12 +54,12 @@ foundCall (F.At call) = ok call
 foundCall F.Nothing = refuse externNotFound
 
 -- "parameters plus one for a return kind"
-unfoldable pub arityOf : Call → ℕ
-arityOf call = cond (eqb (call .«return_kind») noReturn) (call .«parameter_count») (call .«parameter_count» + 1)
+unfoldable pub expectedCount : Call → ℕ
+expectedCount call = cond (eqb (call .«return_kind») noReturn) (call .«parameter_count») (call .«parameter_count» + 1)
 
 -- "The argument count must equal parameters plus one for a return kind."
 abbrev pub isCounted : Call → Bool
-isCounted call = eqb (call .«argument_count») (arityOf call)
+isCounted call = eqb (call .«argument_count») (expectedCount call)
 
 -- Argument i is the return's where there is a return kind and i is 0, else a parameter's; a parameter's place does not count the return.
 unfoldable pub placeOf : Call → ℕ → Place
@@ -127,10 +124,10 @@ pub record Ranges (parameters arguments : List ℕ) (call : Call) : Type 0 where
 -- of one whose count is right
 pub record Counted (parameters arguments : List ℕ) (call : Call) : Type 0 where
   pub ranges : Ranges parameters arguments call
-  pub count : call .«argument_count» ≡ arityOf call
+  pub count : call .«argument_count» ≡ expectedCount call
 
 -- of an argument that is the return's or a parameter's
 pub record Paired (parameters arguments : List ℕ) (call : Call) (i : ℕ) : Type 0 where
   pub ranges : Ranges parameters arguments call
   pub argument : i < call .«argument_count»
-  pub wanted : i < arityOf call
+  pub wanted : i < expectedCount call

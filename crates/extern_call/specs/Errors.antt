@@ -7,15 +7,15 @@ use Rattle.extern_call.specs.declared.error.CallArgumentError.{CallArgum
 use Rattle.extern_call.specs.declared.error.CallArgumentError.the-variants.{Return, Argument}
 
 -- "error, four detail words in field order, zero filled (an argument shows its 3 words)"
-abbrev pub errorWords : CallArgumentResolutionError → List ℕ
-errorWords (UndeclaredMemoryReference name) = 1 ∷ name ∷ 0 ∷ 0 ∷ 0 ∷ []
-errorWords (MismatchedVector expected found) = 2 ∷ expected .kind ∷ expected .length ∷ found .kind ∷ found .length ∷ []
-errorWords (MismatchedScalar expected found) = 3 ∷ expected ∷ found ∷ 0 ∷ 0 ∷ []
-errorWords (InvalidVectorArgument row) = 4 ∷ row .form ∷ row .first ∷ row .second ∷ 0 ∷ []
-errorWords (ReturnArgument row) = 5 ∷ row .form ∷ row .first ∷ row .second ∷ 0 ∷ []
-errorWords (ImmediateArgumentForMutable name) = 6 ∷ name ∷ 0 ∷ 0 ∷ 0 ∷ []
+abbrev pub argumentErrorWords : CallArgumentResolutionError → List ℕ
+argumentErrorWords (UndeclaredMemoryReference name) = 1 ∷ name ∷ 0 ∷ 0 ∷ 0 ∷ []
+argumentErrorWords (MismatchedVector expected found) = 2 ∷ expected .kind ∷ expected .length ∷ found .kind ∷ found .length ∷ []
+argumentErrorWords (MismatchedScalar expected found) = 3 ∷ expected ∷ found ∷ 0 ∷ 0 ∷ []
+argumentErrorWords (InvalidVectorArgument row) = 4 ∷ row .form ∷ row .first ∷ row .second ∷ 0 ∷ []
+argumentErrorWords (ReturnArgument row) = 5 ∷ row .form ∷ row .first ∷ row .second ∷ 0 ∷ []
+argumentErrorWords (ImmediateArgumentForMutable name) = 6 ∷ name ∷ 0 ∷ 0 ∷ 0 ∷ []
 
 -- "Error row, 7 words: 0 return or 1 parameter, parameter index (0 for return), error, four detail words"
 abbrev pub errorRow : CallArgumentError → List ℕ
-errorRow (Return error) = 0 ∷ 0 ∷ errorWords error
-errorRow (Argument index error) = 1 ∷ index ∷ errorWords error
+errorRow (Return error) = 0 ∷ 0 ∷ argumentErrorWords error
+errorRow (Argument index error) = 1 ∷ index ∷ argumentErrorWords error

@@ -6,5 +6,3 @@ pub mod Resolve
 pub mod Gather
 pub mod Call
 pub mod Rows
-pub mod Access
-pub mod Bench

@@ -1,10 +1,12 @@
 -- One argument. 01, Calls: "As source `resolve` and `resolve_return`."
 use Prim.Native.Nat.{ℕ}
 use mathlib.Core.Bool.{cond}
-use mathlib.Core.List.{List}
+use mathlib.Core.List.{List, [], _∷_}
 use lib.Dec.{eqb}
 use Rattle.tables.specs.Rows.{regionKind, regionAt}
 use Rattle.tables.specs.Lookup.{lookupRegion}
+use Rattle.tables.specs.Cases.{caseOf}
+use Rattle.tables.specs.ParameterShape as shape
 use Rattle.tables.specs.declared.lookup.Found.{Found}
 use Rattle.tables.specs.declared.lookup.Found.the-variants.{At, Nothing}
 use Rattle.tables.specs.declared.rows.Argument.{Argument}
@@ -51,18 +53,20 @@ variableOf regions name kind mutable =
 -- "An identifier for a scalar, or for the return, means index 0"
 unfoldable pub identifierOf : List ℕ → ℕ → Parameter → Resolution
 identifierOf regions name p =
-    cond (eqb (p .shape) 0) (scalarOf regions name 0 (p .kind) (p .mutable))
-    (cond (eqb (p .shape) 1) (fixedOf regions name (expectedVector p) (p .mutable))
-    (variableOf regions name (p .kind) (p .mutable)))
+    caseOf (p .shape)
+    ((shape.scalar, scalarOf regions name 0 (p .kind) (p .mutable))
+    ∷ (shape.fixedVector, fixedOf regions name (expectedVector p) (p .mutable))
+    ∷ [])
+    (variableOf regions name (p .kind) (p .mutable))
 
 -- "A reference to a vector parameter is refused before lookup; an immediate to a mutable parameter before its shape. An immediate fits any scalar kind."
 abbrev pub byArgument : List ℕ → Argument → Parameter → UnresolvedCallArgument → Resolution
 byArgument regions row p (Identifier name) = identifierOf regions name p
 byArgument regions row p (Reference name index) =
-    cond (eqb (p .shape) 0) (scalarOf regions name index (p .kind) (p .mutable)) (Failed (E.InvalidVectorArgument row))
+    cond (eqb (p .shape) shape.scalar) (scalarOf regions name index (p .kind) (p .mutable)) (Failed (E.InvalidVectorArgument row))
 byArgument regions row p (Immediate x y) =
     cond (eqb (p .mutable) 0)
-    (cond (eqb (p .shape) 0) (Resolved (R.Immediate (row .first) (row .second) (p .kind))) (Failed (E.InvalidVectorArgument row)))
+    (cond (eqb (p .shape) shape.scalar) (Resolved (R.Immediate (row .first) (row .second) (p .kind))) (Failed (E.InvalidVectorArgument row)))
     (Failed (E.ImmediateArgumentForMutable (p .name)))
 
 -- an argument's row for a parameter

@@ -21,6 +21,13 @@ use Rattle.extern_call.specs.declared.call.CallResolution.the-variants.{
 use Rattle.extern_call.specs.declared.rows.ResolveAnswer.{ResolveAnswer}
 use Rattle.extern_call.specs.declared.rows.ResolveAnswer.the-variants as A
 
+-- "Error row, 7 words"; "Resolved row, 5 words"
+abbrev pub errorWidth : ℕ
+errorWidth = 7
+
+abbrev pub resolvedWidth : ℕ
+resolvedWidth = 5
+
 abbrev pub errorIn : CallResolution → List CallArgumentError
 errorIn (Resolved a) = []
 errorIn (Failed e) = e ∷ []
@@ -35,8 +42,8 @@ errorsOf regions parameters arguments call =
     gather (λ i. errorIn (resolutionAt regions parameters arguments call i)) 0 (call .«argument_count»)
 
 -- its resolved arguments, in order
-unfoldable pub resolvedOf : List ℕ → List ℕ → List ℕ → Call → List ResolvedCallArgument
-resolvedOf regions parameters arguments call =
+unfoldable pub resolvedArguments : List ℕ → List ℕ → List ℕ → Call → List ResolvedCallArgument
+resolvedArguments regions parameters arguments call =
     gather (λ i. resolvedIn (resolutionAt regions parameters arguments call i)) 0 (call .«argument_count»)
 
 -- the items' rows stand in a lent list after `count` rows of that width, and n rows stand there then; nothing else has changed
@@ -44,37 +51,42 @@ pub record Stored {A : Type 0} (row : A → List ℕ) (width count : ℕ) (items
   pub total : n ≡ count + length items
   pub words : exit ≡ sets entry (count * width) (flat row items)
 
--- what resolve gives: 0 or the refusal's number, how many rows it wrote, and the lent rows at exit
-pub record Resolve : Type 0 where
-  pub number : ℕ
-  pub count : ℕ
+-- what resolve gives: its answer, and the lent rows at exit
+pub record Resolving : Type 0 where
+  pub answer : ResolveAnswer
   pub rows : List ℕ
 
-abbrev pub resolve : ℕ → ℕ → List ℕ → Resolve
-resolve number count rows = record { number = number; count = count; rows = rows }
+abbrev pub resolving : ResolveAnswer → List ℕ → Resolving
+resolving answer rows = record { answer = answer; rows = rows }
 
--- the answer's cases
-abbrev pub resolveAnswer : ResolveAnswer → List ℕ → Resolve
-resolveAnswer (A.Refused number) rows = resolve number 0 rows
-resolveAnswer (A.Errors count) rows = resolve argumentErrors count rows
-resolveAnswer (A.Resolved count) rows = resolve 0 count rows
+-- the answer's cases: 0, or the refusal's number, which is 8 for the errors
+abbrev pub resolveNumber : ResolveAnswer → ℕ
+resolveNumber (A.Refused number) = number
+resolveNumber (A.Errors count) = argumentErrors
+resolveNumber (A.Resolved count) = 0
+
+-- how many rows were written, where any may be
+abbrev pub resolveCount : ResolveAnswer → List ℕ
+resolveCount (A.Refused number) = []
+resolveCount (A.Errors count) = count ∷ []
+resolveCount (A.Resolved count) = count ∷ []
 
 -- "It writes nothing, but 8 in resolve writes its error rows and returns their count."
-abbrev pub orRefused : List ℕ → Outcome Resolve → Resolve
+abbrev pub orRefused : List ℕ → Outcome Resolving → Resolving
 orRefused rows (ok r) = r
-orRefused rows (refuse number) = resolve number 0 rows
+orRefused rows (refuse number) = resolving (A.Refused number) rows
 
--- the items' rows from word 0 on, and their count
-abbrev pub withRows : {A : Type 0} → ℕ → (A → List ℕ) → List A → List ℕ → Resolve
-withRows number row items rows = resolve number (length items) (sets rows 0 (flat row items))
+-- the items' rows from word 0 on, and the answer with their count
+abbrev pub withRows : {A : Type 0} → (ℕ → ResolveAnswer) → (A → List ℕ) → List A → List ℕ → Resolving
+withRows answer row items rows = resolving (answer (length items)) (sets rows 0 (flat row items))
 
 -- 6, 7, 4, then 8 with the rows of all errors, or the resolved rows
-unfoldable pub resolveCall : List ℕ → List ℕ → List ℕ → List ℕ → Instruction → List ℕ → Resolve
+unfoldable pub resolveCall : List ℕ → List ℕ → List ℕ → List ℕ → Instruction → List ℕ → Resolving
 resolveCall regions externs parameters arguments x rows = orRefused rows (do
   call ← findCall externs x
   need (isCounted call) argumentCount
-  need (leb (7 * call .«argument_count») (length rows)) bufferSize
+  need (leb (errorWidth * call .«argument_count») (length rows)) bufferSize
   ok
       (cond (allResolve regions parameters arguments call)
-      (withRows 0 resolvedRow (resolvedOf regions parameters arguments call) rows)
-      (withRows argumentErrors errorRow (errorsOf regions parameters arguments call) rows)))
+      (withRows A.Resolved resolvedRow (resolvedArguments regions parameters arguments call) rows)
+      (withRows A.Errors errorRow (errorsOf regions parameters arguments call) rows)))

@@ -1,6 +1,8 @@
 // An argument as it is written in the CALL.
 ghost use mathlib.Core.Path.{_≡_};
 ghost use Rattle.extern_call.specs.Argument.{argumentOf};
+use tables::argument_form::IDENTIFIER;
+use tables::argument_form::REFERENCE;
 use tables::rows::Argument;
 use words::real;
 
@@ -17,8 +19,8 @@ pub fn decode(row: Argument) -> UnresolvedCallArgument
 {
     let form = row.form;
     match form {
-        0 => UnresolvedCallArgument::Identifier(row.first),
-        1 => UnresolvedCallArgument::Reference(row.first, row.second),
+        IDENTIFIER => UnresolvedCallArgument::Identifier(row.first),
+        REFERENCE => UnresolvedCallArgument::Reference(row.first, row.second),
         _ => UnresolvedCallArgument::Immediate(
             real::value_of(row.first),
             real::value_of(row.second),

@@ -1,7 +1,7 @@
 // A CALL's arguments, each with its place in the extern's signature.
 ghost use mathlib.Core.Path.{_≡_};
 ghost use Prim.Native.Nat.{_+_, _^_, _<_};
-ghost use Rattle.extern_call.specs.Call.{foundCall, findCall, arityOf, placeOf, ofReturn, ofParameter, resolutionAt, Paired, Counted, allResolve, CallRanges, callAnswer, resolvesCall};
+ghost use Rattle.extern_call.specs.Call.{foundCall, findCall, expectedCount, placeOf, ofReturn, ofParameter, resolutionAt, Paired, Counted, allResolve, CallRanges, callAnswer, resolvesCall};
 use crate::error::CallArgumentError;
 use crate::resolve::Resolution;
 use crate::resolve::resolve_argument;
@@ -9,6 +9,7 @@ use crate::resolve::resolve_return;
 use crate::resolved::ResolvedCallArgument;
 use tables::lookup::Found;
 use tables::lookup::lookup_extern;
+use tables::parameter_shape::NO_RETURN;
 use tables::refusal::ARGUMENT_COUNT;
 use tables::refusal::ARGUMENT_ERRORS;
 use tables::refusal::EXTERN_NOT_FOUND;
@@ -16,9 +17,6 @@ use tables::rows::Instruction;
 use tables::rows::argument_at;
 use tables::rows::extern_at;
 use tables::rows::parameter_at;
-
-// An extern's return kind where it returns nothing.
-pub const NO_RETURN: u64 = 4;
 
 // A CALL with its extern's signature.
 pub struct Call {
@@ -71,9 +69,9 @@ pub fn find_call(externs: &[u64], x: Instruction) -> FoundCall
 }
 
 // How many arguments the signature takes.
-pub fn arity(call: Call) -> usize
+pub fn expected_count(call: Call) -> usize
     requires { ⌜ call .«parameter_count» + 1 < 2 ^ 64 ⌝ }
-    ensures { λ r. ⌜ r ≡ arityOf call ⌝ }
+    ensures { λ r. ⌜ r ≡ expectedCount call ⌝ }
 {
     if call.return_kind == NO_RETURN {
         return call.parameter_count;
@@ -168,7 +166,7 @@ pub fn resolves(
     let FoundCall::At(call) = find_call(externs, x) else {
         return CallAnswer::Refused(EXTERN_NOT_FOUND);
     };
-    if call.argument_count != arity(call) {
+    if call.argument_count != expected_count(call) {
         return CallAnswer::Refused(ARGUMENT_COUNT);
     }
     if all_resolve(regions, parameters, arguments, call) {

@@ -1,7 +1,7 @@
 // Why an argument does not resolve.
 ghost use mathlib.Core.Path.{_≡_};
 ghost use mathlib.Core.List.{_∷_};
-ghost use Rattle.extern_call.specs.Errors.{errorWords, errorRow};
+ghost use Rattle.extern_call.specs.Errors.{argumentErrorWords, errorRow};
 use crate::vector::Vector;
 use tables::rows::Argument;
 
@@ -24,7 +24,7 @@ pub enum CallArgumentError {
 
 // An error's row, after the two words that say whose it is.
 fn error_row_of(owner: u64, index: u64, error: CallArgumentResolutionError) -> [u64; 7]
-    ensures { λ r. ⌜ r ≡ owner ∷ index ∷ errorWords error ⌝ }
+    ensures { λ r. ⌜ r ≡ owner ∷ index ∷ argumentErrorWords error ⌝ }
 {
     match error {
         CallArgumentResolutionError::UndeclaredMemoryReference(name) => {

@@ -1,5 +1,4 @@
-// A CALL's arguments: resolved against the extern's signature, and the names that they read and write.
-pub mod access;
+// A CALL's arguments: resolved against the extern's signature, or the errors of those that do not resolve.
 pub mod argument;
 pub mod call;
 pub mod error;

@@ -9,6 +9,8 @@ use crate::vector::Vector;
 use crate::vector::same_vector;
 use tables::lookup::Found;
 use tables::lookup::lookup_region;
+use tables::parameter_shape::FIXED_VECTOR;
+use tables::parameter_shape::SCALAR;
 use tables::rows::Argument;
 use tables::rows::Parameter;
 use tables::rows::region_at;
@@ -93,8 +95,8 @@ fn resolve_identifier(regions: &[u64], name: u64, p: Parameter) -> Resolution
 {
     let shape = p.shape;
     match shape {
-        0 => resolve_scalar(regions, name, 0, p.kind, p.mutable),
-        1 => {
+        SCALAR => resolve_scalar(regions, name, 0, p.kind, p.mutable),
+        FIXED_VECTOR => {
             let expected = Vector {
                 kind: p.kind,
                 length: p.length,
@@ -113,7 +115,7 @@ pub fn resolve_argument(regions: &[u64], row: Argument, p: Parameter) -> Resolut
     match argument {
         UnresolvedCallArgument::Identifier(name) => resolve_identifier(regions, name, p),
         UnresolvedCallArgument::Reference(name, index) => {
-            if p.shape != 0 {
+            if p.shape != SCALAR {
                 return Resolution::Failed(CallArgumentResolutionError::InvalidVectorArgument(row));
             }
             resolve_scalar(regions, name, index, p.kind, p.mutable)
@@ -124,7 +126,7 @@ pub fn resolve_argument(regions: &[u64], row: Argument, p: Parameter) -> Resolut
                     p.name,
                 ));
             }
-            if p.shape == 0 {
+            if p.shape == SCALAR {
                 return Resolution::Resolved(ResolvedCallArgument::Immediate {
                     real: row.first,
                     imaginary: row.second,

@@ -6,12 +6,12 @@ ghost use lib.Seq.{sets};
 ghost use Rattle.extern_call.specs.Errors.{errorRow};
 ghost use Rattle.extern_call.specs.Resolved.{resolvedRow};
 ghost use Rattle.extern_call.specs.Call.{Counted, CallRanges};
-ghost use Rattle.extern_call.specs.Rows.{errorIn, resolvedIn, Stored, errorsOf, resolvedOf, resolveAnswer, resolveCall};
+ghost use Rattle.extern_call.specs.Rows.{errorIn, resolvedIn, Stored, errorsOf, resolvedArguments, errorWidth, resolvedWidth, resolving, resolveCall};
 use crate::call::Call;
 use crate::call::CallResolution;
 use crate::call::FoundCall;
 use crate::call::all_resolve;
-use crate::call::arity;
+use crate::call::expected_count;
 use crate::call::find_call;
 use crate::call::resolve_at;
 use crate::error::error_row;
@@ -47,8 +47,8 @@ fn store(rows: &mut [u64], at: usize, words: &[u64])
 
 // An error's row, after `count` of them; how many there are then.
 fn put_error(rows: &mut [u64], count: usize, r: CallResolution) -> usize
-    requires { ⌜ count * 7 + 7 ≤ length (now rows) ⌝ }
-    ensures { λ n. ⌜ Stored errorRow 7 count (errorIn r) (now (rows .entry)) (now (rows .exit)) n ⌝ }
+    requires { ⌜ count * errorWidth + errorWidth ≤ length (now rows) ⌝ }
+    ensures { λ n. ⌜ Stored errorRow errorWidth count (errorIn r) (now (rows .entry)) (now (rows .exit)) n ⌝ }
 {
     let CallResolution::Failed(e) = r else {
         return count;
@@ -60,8 +60,8 @@ fn put_error(rows: &mut [u64], count: usize, r: CallResolution) -> usize
 
 // A resolved row, after `count` of them; how many there are then.
 fn put_resolved(rows: &mut [u64], count: usize, r: CallResolution) -> usize
-    requires { ⌜ count * 5 + 5 ≤ length (now rows) ⌝ }
-    ensures { λ n. ⌜ Stored resolvedRow 5 count (resolvedIn r) (now (rows .entry)) (now (rows .exit)) n ⌝ }
+    requires { ⌜ count * resolvedWidth + resolvedWidth ≤ length (now rows) ⌝ }
+    ensures { λ n. ⌜ Stored resolvedRow resolvedWidth count (resolvedIn r) (now (rows .entry)) (now (rows .exit)) n ⌝ }
 {
     let CallResolution::Resolved(a) = r else {
         return count;
@@ -79,8 +79,8 @@ fn write_errors(
     call: Call,
     rows: &mut [u64],
 ) -> usize
-    requires { ⌜ Counted (now parameters) (now arguments) call × (7 * call .«argument_count» ≤ length (now rows)) ⌝ }
-    ensures { λ n. ⌜ Stored errorRow 7 0 (errorsOf (now (regions .entry)) (now (parameters .entry)) (now (arguments .entry)) call) (now (rows .entry)) (now (rows .exit)) n ⌝ }
+    requires { ⌜ Counted (now parameters) (now arguments) call × (errorWidth * call .«argument_count» ≤ length (now rows)) ⌝ }
+    ensures { λ n. ⌜ Stored errorRow errorWidth 0 (errorsOf (now (regions .entry)) (now (parameters .entry)) (now (arguments .entry)) call) (now (rows .entry)) (now (rows .exit)) n ⌝ }
 {
     let n = call.argument_count;
     let mut count = 0;
@@ -101,8 +101,8 @@ fn write_resolved(
     call: Call,
     rows: &mut [u64],
 ) -> usize
-    requires { ⌜ Counted (now parameters) (now arguments) call × (7 * call .«argument_count» ≤ length (now rows)) ⌝ }
-    ensures { λ n. ⌜ Stored resolvedRow 5 0 (resolvedOf (now (regions .entry)) (now (parameters .entry)) (now (arguments .entry)) call) (now (rows .entry)) (now (rows .exit)) n ⌝ }
+    requires { ⌜ Counted (now parameters) (now arguments) call × (errorWidth * call .«argument_count» ≤ length (now rows)) ⌝ }
+    ensures { λ n. ⌜ Stored resolvedRow resolvedWidth 0 (resolvedArguments (now (regions .entry)) (now (parameters .entry)) (now (arguments .entry)) call) (now (rows .entry)) (now (rows .exit)) n ⌝ }
 {
     let n = call.argument_count;
     let mut count = 0;
@@ -125,12 +125,12 @@ pub fn resolve_call(
     rows: &mut [u64],
 ) -> ResolveAnswer
     requires { ⌜ CallRanges (now externs) (now parameters) (now arguments) x ⌝ }
-    ensures { λ r. ⌜ resolveAnswer r (now (rows .exit)) ≡ resolveCall (now (regions .entry)) (now (externs .entry)) (now (parameters .entry)) (now (arguments .entry)) x (now (rows .entry)) ⌝ }
+    ensures { λ r. ⌜ resolving r (now (rows .exit)) ≡ resolveCall (now (regions .entry)) (now (externs .entry)) (now (parameters .entry)) (now (arguments .entry)) x (now (rows .entry)) ⌝ }
 {
     let FoundCall::At(call) = find_call(externs, x) else {
         return ResolveAnswer::Refused(EXTERN_NOT_FOUND);
     };
-    if call.argument_count != arity(call) {
+    if call.argument_count != expected_count(call) {
         return ResolveAnswer::Refused(ARGUMENT_COUNT);
     }
     if rows.len() < ERROR_WIDTH * call.argument_count {

@@ -9,7 +9,8 @@ use lib.Seq.{getD-take, getD-drop}
 use Rattle.tables.specs.First.{first}
 use Rattle.tables.specs.Rows.{nodeRows}
 use Rattle.tables.specs.Tree.{oneTree}
-use Rattle.memory.specs.References.{isAddress, referenceAt, references, addresses, handedOut, ended, nextFrom, nextOf, nodesIn, nextIn, call, nth}
+use Rattle.memory.specs.References.{isAddress, referenceAt, references, addresses, handedOut, ended, nextFrom, nextOf, nodesIn, nextIn}
+use Rattle.memory.specs.Walk.{kthCall, kthOf, Walk}
 use Rattle.memory.specs.declared.MemoryReference.{MemoryReference}
 use Rattle.memory.specs.declared.Next.{Next}
 use Rattle.memory.specs.declared.Next.the-variants.{Reference, End}
@@ -54,24 +55,24 @@ unfolding nextOf
 next-step nodes place = step-from nodes place (nodeRows nodes - place) refl
 
 -- the k-th of the addresses left, by one step
-told-first : (nodes : List ℕ) (s : Next) (p : ℕ) → s ≡ nth (told nodes s p) 0
-unfolding nth
+told-first : (nodes : List ℕ) (s : Next) (p : ℕ) → s ≡ kthOf (told nodes s p) 0
+unfolding kthOf
 told-first nodes (Reference r) p = refl
 told-first nodes End p = refl
 
-told-later : (nodes : List ℕ) (s : Next) (p k : ℕ) → (s ≡ End → p ≡ nodeRows nodes) → nth (rest nodes p) k ≡ nth (told nodes s p) (suc k)
-unfolding nth addresses
+told-later : (nodes : List ℕ) (s : Next) (p k : ℕ) → (s ≡ End → p ≡ nodeRows nodes) → kthOf (rest nodes p) k ≡ kthOf (told nodes s p) (suc k)
+unfolding kthOf addresses
 told-later nodes (Reference r) p k h = refl
 told-later nodes End p k h = let e : p ≡ nodeRows nodes = h refl in let z : nodeRows nodes - p ≡ 0 = omega arith in rw z
 
 -- the k-th call hands out the k-th address at or after the place, and past the last the end
-calls-addresses : (nodes : List ℕ) (place k : ℕ) → call (nextOf nodes) place k ≡ nth (rest nodes place) k
-unfolding call
-calls-addresses nodes place zero = told-first nodes (nextOf nodes place .found) (nextOf nodes place .place) ∙ ap (λ l. nth l 0) (sym (next-step nodes place .says))
+calls-addresses : (nodes : List ℕ) (place k : ℕ) → kthCall (nextOf nodes) place k ≡ kthOf (rest nodes place) k
+unfolding kthCall
+calls-addresses nodes place zero = told-first nodes (nextOf nodes place .found) (nextOf nodes place .place) ∙ ap (λ l. kthOf l 0) (sym (next-step nodes place .says))
 calls-addresses nodes place (suc k) =
     calls-addresses nodes (nextOf nodes place .place) k ∙
     (told-later nodes (nextOf nodes place .found) (nextOf nodes place .place) k (λ e. ap (λ (s : Stepped). s .place) (next-step nodes place .over e)) ∙
-    ap (λ l. nth l (suc k)) (sym (next-step nodes place .says)))
+    ap (λ l. kthOf l (suc k)) (sym (next-step nodes place .says)))
 
 word-in : (nodes : List ℕ) (i n w : ℕ) → w < n * 3 → getD (nodesIn nodes i n) w 0 ≡ getD nodes (i * 3 + w) 0
 word-in nodes i n w h = rw (getD-take, getD-drop)
@@ -113,10 +114,9 @@ module _ (nodes : List ℕ) (i n : ℕ) (one : oneTree nodes i n ≡ true) where
       let z : i + 0 ≡ i = omega arith in
       rest-in 0 (omega arith) ∙ rw (d, z) (sym (references-addresses nodes i n one))
 
-  -- THE WALK of a range that is exactly one tree: the k-th call from place 0 hands out the tree's k-th reference, and past the last the end
-  pub calls-references : (k : ℕ) → call (nextIn nodes i n) 0 k ≡ nth (references nodes i n) k
+  calls-references : (k : ℕ) → kthCall (nextIn nodes i n) 0 k ≡ kthOf (references nodes i n) k
   unfolding nextIn
-  calls-references k = calls-addresses (nodesIn nodes i n) 0 k ∙ ap (λ l. nth l k) all-in
+  calls-references k = calls-addresses (nodesIn nodes i n) 0 k ∙ ap (λ l. kthOf l k) all-in
 
   -- a place past the tree is the end
   pub past-tree : (place : ℕ) → n ≤ place → nextIn nodes i n place ≡ record { found = End; place = n }
@@ -147,3 +147,12 @@ module _ (nodes : List ℕ) (i n : ℕ) (one : oneTree nodes i n ≡ true) where
           within = w;
           left = said h (Reference r) f ∙ ap (λ l. r ∷ l) (rest-in (s .place) w);
         }
+
+  -- THE WALK of Walk.antt, of a range that is exactly one tree
+  pub tree-walk : Walk nodes i n
+  tree-walk =
+      record {
+        order = references-addresses nodes i n one;
+        calls = calls-references;
+        end = λ place f. end-for-good place (nextIn nodes i n place) refl f;
+      }

@@ -1,3 +1,3 @@
 pub mod References
+pub mod Walk
 pub mod Reader
-pub mod Bench

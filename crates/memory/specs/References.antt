@@ -5,16 +5,16 @@ use mathlib.Core.List.{List, [], _∷_, _++_}
 use lib.ListN.{take, drop}
 use lib.Dec.{eqb}
 use Rattle.tables.specs.First.{first}
+use Rattle.tables.specs.NodeTag as tag
 use Rattle.tables.specs.Rows.{nodeRows, nodeTag, nodeAt, nodeWidth}
 use Rattle.tables.specs.Tree.{arityOf}
 use Rattle.memory.specs.declared.MemoryReference.{MemoryReference}
-use Rattle.memory.specs.declared.Next.{Next}
 use Rattle.memory.specs.declared.Next.the-variants.{Reference, End}
 use Rattle.memory.specs.declared.Stepped.{Stepped}
 
 -- "0 address (name, index)"
 abbrev pub isAddress : List ℕ → ℕ → Bool
-isAddress nodes i = eqb (nodeTag nodes i) 0
+isAddress nodes i = eqb (nodeTag nodes i) tag.address
 
 -- the reference that an address is
 abbrev pub referenceAt : List ℕ → ℕ → MemoryReference
@@ -49,7 +49,7 @@ treeAt nodes i (suc n) = byArity (arityOf (nodeTag nodes i)) (leaf nodes i) (tre
 unfoldable pub references : List ℕ → ℕ → ℕ → List MemoryReference
 references nodes i n = treeAt nodes i n .references
 
--- the addresses among the n rows from row i on, in row order: of exactly one tree they are its references (proofs/ReferenceLaws.antt)
+-- the addresses among the n rows from row i on, in row order: of exactly one tree they are its references (Walk.antt)
 unfoldable pub addresses : List ℕ → ℕ → ℕ → List MemoryReference
 addresses nodes i zero = []
 addresses nodes i (suc n) =
@@ -59,7 +59,7 @@ addresses nodes i (suc n) =
 abbrev pub handedOut : List ℕ → ℕ → Stepped
 handedOut nodes i = record { found = Reference (referenceAt nodes i); place = i + 1 }
 
--- the place is past the rows, so the end is for good (proofs/WalkLaws.antt)
+-- the place is past the rows, so the end is for good (Walk.antt)
 abbrev pub ended : List ℕ → Stepped
 ended nodes = record { found = End; place = nodeRows nodes }
 
@@ -78,14 +78,3 @@ nodesIn nodes i n = take (n * nodeWidth) (drop (i * nodeWidth) nodes)
 -- the same in a range that is "exactly one tree": the place counts the tree's nodes that were passed, 0 at first
 unfoldable pub nextIn : List ℕ → ℕ → ℕ → ℕ → Stepped
 nextIn nodes i n place = nextOf (nodesIn nodes i n) place
-
--- what the k-th call hands out, from 0, where each call goes on from the place that the one before it gave
-unfoldable pub call : (ℕ → Stepped) → ℕ → ℕ → Next
-call next place zero = next place .found
-call next place (suc k) = call next (next place .place) k
-
--- the k-th reference of a list, from 0, and past the last the end
-unfoldable pub nth : List MemoryReference → ℕ → Next
-nth [] k = End
-nth (r ∷ rs) zero = Reference r
-nth (r ∷ rs) (suc k) = nth rs k

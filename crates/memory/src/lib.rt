@@ -4,11 +4,9 @@ ghost use mathlib.Core.Bool.{true};
 ghost use Rattle.tables.specs.Tree.{oneTree};
 ghost use Rattle.memory.specs.References.{nextOf, nextIn};
 ghost use Rattle.memory.specs.Reader.{readerAt, stepOf, stepped};
+use tables::node_tag::ADDRESS;
 use tables::rows::NODE_WIDTH;
 use tables::rows::node_at;
-
-// The tag of an address, whose words are its name and its index.
-const ADDRESS: u64 = 0;
 
 pub struct MemoryReference {
     pub name: u64,
@@ -35,6 +33,7 @@ fn next_at(nodes: &[u64], place: usize) -> Stepped
     let mut i = place;
     while i < rows {
         let node = node_at(nodes, i);
+        // An address's words are its name and its index.
         if node.tag == ADDRESS {
             let reference = MemoryReference {
                 name: node.first,

@@ -17,15 +17,17 @@ use Rattle.tables.proofs.FirstLaws.{every-row}
 use Rattle.tables.proofs.LookupLaws.{region-row, region-named}
 use Rattle.loader.proofs.Loaded.{both}
 use Rattle.extern_call.specs.Call.{resolutionAt}
-use Rattle.extern_call.specs.Access.{has}
 use Rattle.extern_call.specs.Resolved.{resolvedName, resolvedMutable}
 use Rattle.extern_call.specs.declared.call.Call.{Call}
 use Rattle.extern_call.specs.declared.call.CallResolution.{CallResolution}
 use Rattle.extern_call.specs.declared.call.CallResolution.the-variants as C
 use Rattle.extern_call.specs.declared.resolved.ResolvedCallArgument.{ResolvedCallArgument}
 use Rattle.extern_call.specs.declared.resolved.ResolvedCallArgument.the-variants.{Vector, MemoryReference, Immediate}
-use Rattle.extern_call.proofs.ResolvedLaws.{resolved-facts, mutable-written}
-use Rattle.extern_call.proofs.ResolvesLaws.{Resolving, below-paired}
+use Rattle.extern_call.proofs.ResolvedLaws.{resolved-facts}
+use Rattle.extern_call.proofs.ResolvesLaws.{Resolvable}
+use Rattle.access_sets.specs.Set.{has}
+use Rattle.access_sets.proofs.PairedLaws.{below-paired}
+use Rattle.access_sets.proofs.WrittenLaws.{mutable-written}
 use Rattle.journal.specs.declared.cells.Write.{Write}
 use Rattle.journal.specs.Each.{Each, none, also}
 use Rattle.operands.specs.Address.{addressOf}
@@ -84,7 +86,7 @@ module _ (t : Tables) (x : Instruction) (kinds : KindsAllowed (t .regions)) wher
         allowed = λ u. rw (region-of (t .regions) r i l (a .index), region-named (t .regions) name r (a .named)) h;
       })
 
-  module _ {call : Call} (v : Resolving (t .regions) (t .externs) (t .parameters) (t .arguments) x call) where
+  module _ {call : Call} (v : Resolvable (t .regions) (t .externs) (t .parameters) (t .arguments) x call) where
     abbrev resolution : ℕ → CallResolution
     resolution i = resolutionAt (t .regions) (t .parameters) (t .arguments) call i
 

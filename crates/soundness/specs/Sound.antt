@@ -15,9 +15,10 @@ use Rattle.tables.specs.declared.rows.Instruction.{Instruction}
 use Rattle.type_check.specs.Check.{checkOf}
 use Rattle.type_check.specs.declared.error.Verdict.the-variants.{Accepted}
 use Rattle.extern_call.specs.Call.{findCall}
-use Rattle.extern_call.specs.Access.{accessOf, has}
 use Rattle.extern_call.specs.declared.call.Call.{Call}
-use Rattle.extern_call.specs.declared.access.Access.the-variants.{Write}
+use Rattle.access_sets.specs.Set.{has}
+use Rattle.access_sets.specs.Access.{accessOf}
+use Rattle.access_sets.specs.declared.access.Access.the-variants.{Write}
 use Rattle.journal.specs.declared.cells.Write as journal
 use Rattle.journal.specs.Cells.{held}
 use Rattle.journal.specs.Each.{Each}

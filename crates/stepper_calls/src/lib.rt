@@ -1,4 +1,5 @@
 // The public calls on the tables as the terminal holds them: one array, a room for each.
+use access_sets::access::AccessAnswer;
 use console::access::access;
 use console::back::back;
 use console::check::CheckAnswer;
@@ -6,7 +7,6 @@ use console::check::check;
 use console::forward::forward;
 use console::open::open;
 use console::resolve::resolve;
-use extern_call::access::AccessAnswer;
 use extern_call::rows::ResolveAnswer;
 use journal::position::Position;
 use script::line::least;

@@ -3,7 +3,7 @@ use mathlib.Core.Path.{sym, _∙_}
 use borrow.Author.Tests.{not-true, not-false}
 use Rattle.tables.specs.Outcome.{_>>=_, _>>_, need, seen}
 use Rattle.extern_call.specs.Call.{callAnswer}
-use Rattle.extern_call.proofs.ResolvesLaws.{resolving-counted}
+use Rattle.extern_call.proofs.ResolvesLaws.{resolvable-counted}
 use Rattle.call_reply.proofs.ReplyLaws.{ready-ok}
 use Rattle.call_reply.specs.Call.{callJudged}
 use Rattle.call_reply.proofs.call.judge_call.Statement.{statement}
@@ -16,7 +16,7 @@ enum-known-answer : tie.Need-enum-known-answer
 enum-known-answer c = search needs
 
 reply-fits-requires : tie.Need-reply-fits-requires
-reply-fits-requires c κs = resolving-counted (c .before .before .before .before .before .before .before .before .before .args .regions .now) (c .before .before .before .before .before .before .before .before .before .args .externs .now) (c .before .before .before .before .before .before .before .before .before .args .parameters .now) (c .before .before .before .before .before .before .before .before .before .args .arguments .now) (c .before .before .before .before .before .before .before .before .before .args .x) _ (c .before .before .before .before .before .before .before .before .before .pre) (ready-ok (c .before .before .before .before .before .before .before .before .before .args .regions .now) (c .before .before .before .before .before .before .before .before .before .args .externs .now) (c .before .before .before .before .before .before .before .before .before .args .parameters .now) (c .before .before .before .before .before .before .before .before .before .args .arguments .now) (c .before .before .before .before .before .before .before .before .before .args .x) _ (seen callAnswer (c .before .before .before .ready-call .ensures) (c .before .answer .given .1)) .0)
+reply-fits-requires c κs = resolvable-counted (c .before .before .before .before .before .before .before .before .before .args .regions .now) (c .before .before .before .before .before .before .before .before .before .args .externs .now) (c .before .before .before .before .before .before .before .before .before .args .parameters .now) (c .before .before .before .before .before .before .before .before .before .args .arguments .now) (c .before .before .before .before .before .before .before .before .before .args .x) _ (c .before .before .before .before .before .before .before .before .before .pre) (ready-ok (c .before .before .before .before .before .before .before .before .before .args .regions .now) (c .before .before .before .before .before .before .before .before .before .args .externs .now) (c .before .before .before .before .before .before .before .before .before .args .parameters .now) (c .before .before .before .before .before .before .before .before .before .args .arguments .now) (c .before .before .before .before .before .before .before .before .before .args .x) _ (seen callAnswer (c .before .before .before .ready-call .ensures) (c .before .answer .given .1)) .0)
 
 returns : tie.Need-returns
 unfolding callJudged _>>=_ _>>_ need

@@ -3,7 +3,7 @@ use mathlib.Core.Path.{sym, _∙_}
 use borrow.Author.Tests.{not-true, not-false}
 use Rattle.tables.specs.Outcome.{_>>=_, _>>_, need, seen}
 use Rattle.extern_call.specs.Call.{callAnswer}
-use Rattle.extern_call.proofs.ResolvesLaws.{resolves-ok, resolving-counted}
+use Rattle.extern_call.proofs.ResolvesLaws.{resolves-ok, resolvable-counted}
 use Rattle.call_reply.specs.Call.{callReady}
 use Rattle.call_reply.proofs.call.ready_call.Statement.{statement}
 use Rattle.call_reply.proofs.call.ready_call.Tie as tie
@@ -15,7 +15,7 @@ enum-known-answer : tie.Need-enum-known-answer
 enum-known-answer c = search needs
 
 scalars-fit-requires : tie.Need-scalars-fit-requires
-scalars-fit-requires c κs = resolving-counted (c .before .before .before .before .before .before .before .before .args .regions .now) (c .before .before .before .before .before .before .before .before .args .externs .now) (c .before .before .before .before .before .before .before .before .args .parameters .now) (c .before .before .before .before .before .before .before .before .args .arguments .now) (c .before .before .before .before .before .before .before .before .args .x) _ (c .before .before .before .before .before .before .before .before .pre) (resolves-ok (c .before .before .before .before .before .before .before .before .args .regions .now) (c .before .before .before .before .before .before .before .before .args .externs .now) (c .before .before .before .before .before .before .before .before .args .parameters .now) (c .before .before .before .before .before .before .before .before .args .arguments .now) (c .before .before .before .before .before .before .before .before .args .x) _ (seen callAnswer (c .before .before .before .resolves .ensures) (c .before .answer .given .1)))
+scalars-fit-requires c κs = resolvable-counted (c .before .before .before .before .before .before .before .before .args .regions .now) (c .before .before .before .before .before .before .before .before .args .externs .now) (c .before .before .before .before .before .before .before .before .args .parameters .now) (c .before .before .before .before .before .before .before .before .args .arguments .now) (c .before .before .before .before .before .before .before .before .args .x) _ (c .before .before .before .before .before .before .before .before .pre) (resolves-ok (c .before .before .before .before .before .before .before .before .args .regions .now) (c .before .before .before .before .before .before .before .before .args .externs .now) (c .before .before .before .before .before .before .before .before .args .parameters .now) (c .before .before .before .before .before .before .before .before .args .arguments .now) (c .before .before .before .before .before .before .before .before .args .x) _ (seen callAnswer (c .before .before .before .resolves .ensures) (c .before .answer .given .1)))
 
 returns : tie.Need-returns
 unfolding callReady _>>=_ _>>_ need

@@ -32,14 +32,20 @@ instruction-at-requires : tie.Need-instruction-at-requires
 instruction-at-requires c κs = chosen _ _ _ (loaded-row _ _ _ (seen lookOutcome (c .before .before .load-row .ensures) (c .enum-told .given .1)) .1) .0
 
 resolve-call-requires : tie.Need-resolve-call-requires
-resolve-call-requires c κs = rw (c .before .instruction-at .ensures) (call-ranges _ (loaded-row _ _ _ (seen lookOutcome (c .before .before .before .before .load-row .ensures) (c .before .before .enum-told .given .1)) .0) (loaded-row _ _ _ (seen lookOutcome (c .before .before .before .before .load-row .ensures) (c .before .before .enum-told .given .1)) .1))
+resolve-call-requires c κs =
+    let l = loaded-row _ _ _ (seen lookOutcome (c .before .before .before .before .load-row .ensures) (c .before .before .enum-told .given .1)) in
+    rw (c .before .instruction-at .ensures) (call-ranges _ (l .0) (l .1))
 
 same-length : tie.Need-same-length
 same-length c = search needs
 
 returns-2 : tie.Need-returns-2
 unfolding resolveTables
-returns-2 c = rw (seen lookOutcome (c .before .before .before .before .before .before .before .load-row .ensures) (c .before .before .before .before .before .enum-told .given .1)) (rw (c .before .before .before .before .instruction-at .ensures) at (c .before .before .resolve-call .ensures))
+returns-2 c =
+    let called = c .before .before in
+    let chosen-row = called .before .before in
+    let accepted = chosen-row .before in
+    rw (seen lookOutcome (accepted .before .before .load-row .ensures) (accepted .enum-told .given .1)) (rw (chosen-row .instruction-at .ensures) at (called .resolve-call .ensures))
 
 pub resolve-spec : {M : Type 1} → statement M
 resolve-spec =

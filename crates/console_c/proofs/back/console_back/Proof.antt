@@ -1,6 +1,4 @@
-use mathlib.Core.Path.{ap}
-use Rattle.session.specs.Back.{Back}
-use Rattle.console_c.specs.Back.{wentBackOf, consoleBack}
+use Rattle.console_c.specs.Back.{consoleBack}
 use borrow.Author.Needs.{needs}
 use Rattle.console_c.proofs.back.console_back.Statement.{statement}
 use Rattle.console_c.proofs.back.console_back.Tie as tie
@@ -25,14 +23,20 @@ same-length c = search needs
 
 returns : tie.Need-returns
 unfolding consoleBack
-returns c = rw (c .before .answer .given .1, c .before .before .before .before .before .before .before .position-in .ensures) at (ap (λ (l : Back). wentBackOf l (c .before .before .before .before .before .before .before .before .before .before .before .before .before .before .before .before .before .args .position .now)) (c .before .before .before .before .before .back .ensures))
+returns c =
+    let told = c .before in
+    let called = told .before .before .before .before in
+    rw (← called .before .before .position-in .ensures, ← called .back .ensures, told .answer .given .1)
 
 same-length-2 : tie.Need-same-length-2
 same-length-2 c = search needs
 
 returns-2 : tie.Need-returns-2
 unfolding consoleBack
-returns-2 c = rw (c .write-position .ensures) (rw (c .before .before .before .answer2 .given .1, c .before .before .before .before .before .before .before .before .before .position-in .ensures) at (ap (λ (l : Back). wentBackOf l (c .before .before .before .before .before .before .before .before .before .before .before .before .before .before .before .before .before .before .before .args .position .now)) (c .before .before .before .before .before .before .before .back .ensures)))
+returns-2 c =
+    let told = c .before .before .before in
+    let called = told .before .before .before .before in
+    rw (← called .before .before .position-in .ensures, ← called .back .ensures, told .answer2 .given .1, c .write-position .ensures)
 
 pub console-back-spec : {M : Type 1} → statement M
 console-back-spec =

@@ -1,6 +1,4 @@
-use mathlib.Core.Path.{ap}
-use Rattle.session.specs.Forward.{Left}
-use Rattle.console_c.specs.Forward.{forwardedOf, consoleForward}
+use Rattle.console_c.specs.Forward.{consoleForward}
 use borrow.Author.Needs.{needs}
 use Rattle.console_c.proofs.forward.console_forward.Statement.{statement}
 use Rattle.console_c.proofs.forward.console_forward.Tie as tie
@@ -28,7 +26,10 @@ same-length-2 c = search needs
 
 returns : tie.Need-returns
 unfolding consoleForward
-returns c = rw (c .before .answer .given .1, c .before .before .before .before .before .before .before .before .before .before .position-in .ensures) at (ap (λ (l : Left). forwardedOf l (c .before .before .before .before .before .before .before .before .before .before .before .before .before .before .before .before .before .before .before .before .before .args .position .now)) (c .before .before .before .before .before .before .before .forward .ensures))
+returns c =
+    let told = c .before in
+    let called = told .before .before .before .before .before .before in
+    rw (← called .before .before .before .position-in .ensures, ← called .forward .ensures, told .answer .given .1)
 
 same-length-3 : tie.Need-same-length-3
 same-length-3 c = search needs
@@ -38,7 +39,10 @@ same-length-4 c = search needs
 
 returns-2 : tie.Need-returns-2
 unfolding consoleForward
-returns-2 c = rw (c .write-position .ensures) (rw (c .before .before .before .answer2 .given .1, c .before .before .before .before .before .before .before .before .before .before .before .before .position-in .ensures) at (ap (λ (l : Left). forwardedOf l (c .before .before .before .before .before .before .before .before .before .before .before .before .before .before .before .before .before .before .before .before .before .before .before .args .position .now)) (c .before .before .before .before .before .before .before .before .before .forward .ensures)))
+returns-2 c =
+    let told = c .before .before .before in
+    let called = told .before .before .before .before .before .before in
+    rw (← called .before .before .before .position-in .ensures, ← called .forward .ensures, told .answer2 .given .1, c .write-position .ensures)
 
 pub console-forward-spec : {M : Type 1} → statement M
 console-forward-spec =

@@ -8,8 +8,8 @@ use Rattle.console_c.proofs.reference.console_reference.Lts as lts
 use Rattle.console.proofs.references.memory_references.Reads as memory-references-reads
 use Rattle.console_c.proofs.reference.write_found.Reads as write-found-reads
 
-element-copy-out-memory-references : tie.Need-element-copy-out-memory-references
-element-copy-out-memory-references c = search needs
+element-copy-out-old : tie.Need-element-copy-out-old
+element-copy-out-old c = search needs
 
 memory-references-requires : tie.Need-memory-references-requires
 memory-references-requires c κs = search needs
@@ -38,7 +38,7 @@ pub console-reference-spec : {M : Type 1} → statement M
 console-reference-spec =
     tie.close
     (tie.spec
-    element-copy-out-memory-references
+    element-copy-out-old
     memory-references-requires
     enum-known-answer
     enum-known-answer-2

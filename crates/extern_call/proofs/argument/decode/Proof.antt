@@ -1,4 +1,5 @@
 use borrow.Author.Tests.{ne-eqb}
+use Rattle.tables.specs.Cases.{caseOf}
 use Rattle.extern_call.specs.Argument.{argumentOf}
 use borrow.Author.Needs.{needs}
 use Rattle.extern_call.proofs.argument.decode.Statement.{statement}
@@ -11,15 +12,15 @@ value-of-requires-2 : tie.Need-value-of-requires-2
 value-of-requires-2 c κs = search needs
 
 returns : tie.Need-returns
-unfolding argumentOf
+unfolding argumentOf caseOf
 returns c = rw (c .match .keys1)
 
 returns-2 : tie.Need-returns-2
-unfolding argumentOf
+unfolding argumentOf caseOf
 returns-2 c = rw (c .match .keys2)
 
 returns-3 : tie.Need-returns-3
-unfolding argumentOf
+unfolding argumentOf caseOf
 returns-3 c = rw (ne-eqb _ _ (c .before .before .match .rest .0 .1), ne-eqb _ _ (c .before .before .match .rest .1), c .before .value-of .ensures, c .value-of2 .ensures)
 
 pub decode-spec : {M : Type 1} → statement M

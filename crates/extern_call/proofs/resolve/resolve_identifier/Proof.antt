@@ -1,4 +1,5 @@
 use borrow.Author.Tests.{ne-eqb}
+use Rattle.tables.specs.Cases.{caseOf}
 use Rattle.extern_call.specs.Resolve.{identifierOf}
 use borrow.Author.Needs.{needs}
 use Rattle.extern_call.proofs.resolve.resolve_identifier.Statement.{statement}
@@ -14,15 +15,15 @@ resolve-variable-requires : tie.Need-resolve-variable-requires
 resolve-variable-requires c κs = search needs
 
 returns : tie.Need-returns
-unfolding identifierOf
+unfolding identifierOf caseOf
 returns c = rw (c .before .match .keys1) (c .resolve-scalar .ensures)
 
 returns-2 : tie.Need-returns-2
-unfolding identifierOf
+unfolding identifierOf caseOf
 returns-2 c = rw (c .before .match .keys2) (c .resolve-fixed .ensures)
 
 returns-3 : tie.Need-returns-3
-unfolding identifierOf
+unfolding identifierOf caseOf
 returns-3 c = rw (ne-eqb _ _ (c .before .match .rest .0 .1), ne-eqb _ _ (c .before .match .rest .1)) (c .resolve-variable .ensures)
 
 pub resolve-identifier-spec : {M : Type 1} → statement M

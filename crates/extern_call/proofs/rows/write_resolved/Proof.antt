@@ -1,10 +1,8 @@
-use Prim.Native.Nat.{_-_, _≤_}
-use mathlib.Core.Path.{_≡_, refl, _∙_}
+use Prim.Native.Nat.{_-_}
 use native.Mathlib.Omega.{arith}
-use lib.ListN.{length}
 use Rattle.extern_call.specs.Resolved.{resolvedRow}
 use Rattle.extern_call.specs.Call.{resolutionAt}
-use Rattle.extern_call.specs.Rows.{resolvedIn, resolvedOf}
+use Rattle.extern_call.specs.Rows.{resolvedIn, resolvedArguments}
 use Rattle.extern_call.proofs.GatherLaws.{Written, written-start, written-turn, written-end}
 use Rattle.extern_call.proofs.RowLaws.{resolved-width, resolved-few}
 use Rattle.extern_call.proofs.CallLaws.{counted-paired}
@@ -12,19 +10,19 @@ use Rattle.extern_call.proofs.rows.write_resolved.Statement.{statement}
 use Rattle.extern_call.proofs.rows.write_resolved.Tie as tie
 
 abbrev Inv-loop : tie.InvT-loop
-Inv-loop regions parameters arguments call rows₀ n count₀ i₀ rows count i = (i ≤ n) × (count ≤ i) × (length rows ≡ length rows₀) × Written resolvedRow 5 (λ k. resolvedIn (resolutionAt regions parameters arguments call k)) n rows₀ rows count i
+Inv-loop regions parameters arguments call rows₀ n count₀ i₀ rows count i = Written resolvedRow 5 (λ k. resolvedIn (resolutionAt regions parameters arguments call k)) n rows₀ rows count i
 
 abbrev μ-loop : tie.MeasureT-loop
 μ-loop regions parameters arguments call rows₀ n count₀ i₀ rows count i = n - i
 
 loop-holds : tie.Need-loop-holds Inv-loop μ-loop
-loop-holds c = (omega arith, omega arith, refl, written-start _ _ _ _ _)
+loop-holds c = written-start _ _ _ _ _
 
 resolve-at-requires : tie.Need-resolve-at-requires Inv-loop μ-loop
 resolve-at-requires c κs = counted-paired _ (c .before .before .before .before .before .before .pre .0) (c .loop-test .taken)
 
 put-resolved-requires : tie.Need-put-resolved-requires Inv-loop μ-loop
-put-resolved-requires c κs = omega arith
+put-resolved-requires c κs = let w = c .before .before .before .loop .inv in omega (arith, w .few, w .same)
 
 add-i : tie.Need-add-i Inv-loop μ-loop
 add-i c = omega arith
@@ -33,14 +31,21 @@ loop-less : tie.Need-loop-less Inv-loop μ-loop
 loop-less c = omega arith
 
 loop-again : tie.Need-loop-again Inv-loop μ-loop
-loop-again c = let s = c .before .before .before .before .before .before .before .before .before .before .before .args in (omega arith, omega (arith, resolved-few (c .before .before .before .before .resolve-at .result), c .before .before .put-resolved .ensures .total), c .before .before .put-resolved .kept .0 ∙ c .before .before .before .before .before .before .loop .inv .2, written-turn _ _ _ _ _ _ _ _ _ _ (c .before .before .before .before .before .loop-test .taken) (resolved-width (resolutionAt (s .regions .now) (s .parameters .now) (s .arguments .now) (s .call) (c .before .before .before .before .before .before .loop .i))) (c .before .before .before .before .before .before .loop .inv .3) (rw (c .before .before .before .before .resolve-at .ensures) at (c .before .before .put-resolved .ensures)))
+loop-again c =
+    let put = c .before .before in
+    let resolved = put .before .before in
+    let turn = resolved .before .before in
+    let s = turn .before .before .before .before .before .args in
+    let r = resolutionAt (s .regions .now) (s .parameters .now) (s .arguments .now) (s .call) (turn .loop .i) in
+    written-turn _ _ _ _ _ _ _ _ _ _ (resolved .before .loop-test .taken) (resolved-few r) (resolved-width r) (turn .loop .inv) (put .put-resolved .kept .0)
+    (rw (resolved .resolve-at .ensures) at (put .put-resolved .ensures))
 
 same-length : tie.Need-same-length Inv-loop μ-loop
-same-length c = c .before .loop .inv .2
+same-length c = c .before .loop .inv .same
 
 returns : tie.Need-returns Inv-loop μ-loop
-unfolding resolvedOf
-returns c = written-end _ _ _ _ _ _ _ _ (c .loop-test .left) (c .before .loop .inv .3)
+unfolding resolvedArguments
+returns c = written-end _ _ _ _ _ _ _ _ (c .loop-test .left) (c .before .loop .inv)
 
 pub write-resolved-spec : {M : Type 1} → statement M
 write-resolved-spec =

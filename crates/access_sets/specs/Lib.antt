@@ -1,0 +1,4 @@
+pub mod Set
+pub mod Inner
+pub mod Access
+pub mod Laws
