@@ -4,6 +4,7 @@ from rules.outcome import Refused
 from rules.tables import NODE_TABLE
 
 TABLE_SIGNS = 'REPNAI'
+GIVEN = 6
 # How far apart the program keeps the tables.
 TABLE_ROOM = 6150
 MARK = 1000
@@ -27,6 +28,7 @@ class Script:
     def __init__(self):
         self.lines, self.answers = ['# Written by model.py, with what each call must answer.'], []
         self.tables = [[] for _ in TABLE_SIGNS]
+        self.given = []
         self.memory, self.journal, self.position = [], [], (0, 0)
 
     def heading(self, text):
@@ -74,6 +76,12 @@ class Script:
             self.position = done, used
             self.lines.append(joined('p', done, used))
 
+    def give(self, *numbers):
+        """The numbers that the next call takes."""
+        held, self.given = self.given, list(numbers)
+        if held != self.given:
+            self.shorter(joined('G', len(numbers), len(numbers), *numbers), held, self.given, lambda: planted('t', held, self.given, GIVEN * TABLE_ROOM))
+
     def call(self, name, command, play, refused_at=lambda: ()):
         """Plays the call on copies of memory and journal, and tells what changed."""
         self.lines.append(command)
@@ -94,34 +102,37 @@ class Script:
         return position
 
     def open(self):
-        return self.call('open', 'o 0', lambda memory, journal: self.moved(session.open_session(self.tables, memory, journal)))
+        return self.call('open', 'o', lambda memory, journal: self.moved(session.open_session(self.tables, memory, journal)))
 
     def forward(self, reply=()):
         def play(memory, journal):
             return self.moved(session.forward(self.tables, memory, journal, self.position, list(reply)))
-        return self.call('forward', joined('f', len(reply), *reply), play, lambda: self.position)
+        self.give(*reply)
+        return self.call('forward', 'f', play, lambda: self.position)
 
     def back(self):
         def play(memory, journal):
             return self.moved(session.back(self.tables, memory, journal, self.position))
-        return self.call('back', 'b 0', play, lambda: self.position)
+        return self.call('back', 'b', play, lambda: self.position)
 
     def check(self):
-        return self.call('check', 'c 0', lambda memory, journal: kept.check(self.tables))
+        return self.call('check', 'c', lambda memory, journal: kept.check(self.tables))
 
     def resolve(self, row, room):
         """Into memory of so many words."""
         def play(memory, journal):
             return kept.resolve(self.tables, row, memory)
         self.lend_lists(play, room, len(self.journal))
-        return self.call('resolve', joined('v', 1, row), play)
+        self.give(row)
+        return self.call('resolve', 'v', play)
 
     def access(self, row, read_room, write_room):
         """Into memory and journal of so many words."""
         def play(memory, journal):
             return kept.access(self.tables, row, memory, journal)
         self.lend_lists(play, read_room, write_room)
-        return self.call('access', joined('s', 1, row), play)
+        self.give(row)
+        return self.call('access', 's', play)
 
     def walk(self, first, count, place=None):
         """From a place, or from where the last step ended; the place is the position's first number."""
@@ -132,7 +143,8 @@ class Script:
             shown = kept.walk(self.tables[NODE_TABLE], first, count, self.position[0])
             self.position = shown[-1], self.position[1]
             return shown
-        return self.call('walk', joined('w', 2, first, count), play)
+        self.give(first, count)
+        return self.call('walk', 'w', play)
 
     def lend_lists(self, play, first, second):
         """Words that all change where the call writes: marks, or else zeros less one, two and so on."""

@@ -1,6 +1,7 @@
 // A call on what is lent, and the line that tells of it.
 ghost use Prim.Native.Nat.{_≤_, _<_};
 ghost use lib.ListN.{length};
+use crate::lent::GIVEN;
 use crate::lent::JOURNAL;
 use crate::lent::JOURNAL_WORDS;
 use crate::lent::LENT;
@@ -23,13 +24,8 @@ use console::open::open;
 use console::references::memory_references;
 use console::resolve::resolve;
 use journal::position::Position;
-use script::fill::fill;
 use script::fill::put;
 use script::line::least;
-use script::token::token_at;
-
-// The longest list of numbers after a call: more than a reply may have.
-const GIVEN_WORDS: usize = 300;
 
 // The answer is written; the position to go on from.
 fn session_call(
@@ -43,7 +39,7 @@ fn session_call(
     memory: &mut [u64],
     journal: &mut [u64],
     position: Position,
-    reply: &[u64],
+    given: &[u64],
     numbers: [u64; 2],
 ) -> Position {
     match sign {
@@ -72,7 +68,7 @@ fn session_call(
                 memory,
                 journal,
                 position,
-                reply,
+                given,
             ),
         ),
         b'b' => stepped(
@@ -158,9 +154,9 @@ fn table_call(
     }
 }
 
-// The words of one of the six tables.
+// The words of a table, or the numbers that are given to a call.
 fn part(tables: &[u64], which: usize, words: u64) -> &[u64]
-    requires { ⌜ (which < 6) × (36900 ≤ length (now tables)) ⌝ }
+    requires { ⌜ (which < 7) × (43050 ≤ length (now tables)) ⌝ }
 {
     let first = which * ROOM;
     let end = first + least(words as usize, ROOM);
@@ -174,10 +170,8 @@ fn on_lengths(
     memory: &mut [u64],
     journal: &mut [u64],
     position: Position,
-    reply: &[u64],
-    numbers: [u64; 2],
 ) -> Position
-    requires { ⌜ 36900 ≤ length (now tables) ⌝ }
+    requires { ⌜ 43050 ≤ length (now tables) ⌝ }
 {
     session_call(
         sign,
@@ -190,8 +184,8 @@ fn on_lengths(
         memory,
         journal,
         position,
-        reply,
-        numbers,
+        part(tables, GIVEN, lengths[GIVEN]),
+        [tables[36900], tables[36901]],
     )
 }
 
@@ -211,51 +205,33 @@ fn told(
     memory: &mut [u64],
     journal: &mut [u64],
     position: Position,
-    reply: &[u64],
-    numbers: [u64; 2],
 ) -> Position
-    requires { ⌜ 36900 ≤ length (now tables) ⌝ }
+    requires { ⌜ 43050 ≤ length (now tables) ⌝ }
 {
     let mut memory_before = [0; MEMORY_WORDS];
     let mut journal_before = [0; JOURNAL_WORDS];
     copy(memory, &mut memory_before);
     copy(journal, &mut journal_before);
-    let next = on_lengths(
-        sign,
-        tables,
-        lengths,
-        memory,
-        journal,
-        position,
-        reply,
-        numbers,
-    );
+    let next = on_lengths(sign, tables, lengths, memory, journal, position);
     changes(&memory_before, memory);
     changes(&journal_before, journal);
     text(b"\n");
     next
 }
 
-// `k w..`: the numbers that a call takes. The place after them.
+// The calls are given the words of memory and journal that are lent, and move the position.
 pub fn call(
     sign: u8,
-    script: &[u8],
-    at: usize,
     tables: &[u64],
     memory: &mut [u64],
     journal: &mut [u64],
     lengths: [u64; LENT],
     position: &mut [u64; 2],
-) -> usize
-    requires { ⌜ 36900 ≤ length (now tables) ⌝ }
+)
+    requires { ⌜ 43050 ≤ length (now tables) ⌝ }
 {
-    let mut given = [0; GIVEN_WORDS];
-    let count = token_at(script, at);
-    let next = fill(script, count.next, &mut given, count.value as usize);
-    let reply = least(count.value as usize, GIVEN_WORDS);
     let words = least(lengths[MEMORY] as usize, memory.len());
     let entries = least(lengths[JOURNAL] as usize, journal.len());
-    let numbers = [given[0], given[1]];
     let moved = told(
         sign,
         tables,
@@ -266,10 +242,7 @@ pub fn call(
             done: position[0] as usize,
             used: position[1] as usize,
         },
-        &given[0..reply],
-        numbers,
     );
     position[0] = moved.done as u64;
     position[1] = moved.used as u64;
-    next
 }

@@ -5,21 +5,23 @@ use script::fill::fill;
 use script::line::least;
 use script::token::token_at;
 
-// Room for a row more than the limits allow; the six tables lie one after the other.
+// Room for a row more than the limits allow; the six tables lie one after the other, and then the numbers that are given to a call.
 pub const ROOM: usize = 6150;
 
-pub const TABLE_WORDS: usize = 36900;
+pub const TABLE_WORDS: usize = 43050;
 
 pub const MEMORY_WORDS: usize = 8200;
 
 pub const JOURNAL_WORDS: usize = 6150;
 
-// How many lists there are, and where the lengths of memory and journal stand, after those of the tables.
-pub const LENT: usize = 8;
+// How many lists there are, and where the lengths of those that are no table stand.
+pub const LENT: usize = 9;
 
-pub const MEMORY: usize = 6;
+pub const GIVEN: usize = 6;
 
-pub const JOURNAL: usize = 7;
+pub const MEMORY: usize = 7;
+
+pub const JOURNAL: usize = 8;
 
 // The first words over and over, up to a length.
 fn repeat(words: &mut [u64], first: usize, end: usize)
@@ -41,16 +43,31 @@ fn mark(words: &mut [u64]) {
     }
 }
 
+fn table_of(sign: u8) -> usize
+    ensures { λ r. ⌜ r < 7 ⌝ }
+{
+    match sign {
+        b'R' => 0,
+        b'E' => 1,
+        b'P' => 2,
+        b'N' => 3,
+        b'A' => 4,
+        b'I' => 5,
+        _ => GIVEN,
+    }
+}
+
 // `n k w..`: a table of n words, the k given ones over and over. The place after it.
 pub fn set_table(
+    sign: u8,
     text: &[u8],
     at: usize,
     tables: &mut [u64],
-    which: usize,
     lengths: &mut [u64; LENT],
 ) -> usize
-    requires { ⌜ (which < 6) × (36900 ≤ length (now tables)) ⌝ }
+    requires { ⌜ 43050 ≤ length (now tables) ⌝ }
 {
+    let which = table_of(sign);
     let first = which * ROOM;
     let all = token_at(text, at);
     let given = token_at(text, all.next);
@@ -71,7 +88,7 @@ pub fn set_lent(
     which: usize,
     lengths: &mut [u64; LENT],
 ) -> usize
-    requires { ⌜ which < 8 ⌝ }
+    requires { ⌜ which < 9 ⌝ }
 {
     let all = token_at(text, at);
     let given = token_at(text, all.next);

@@ -7,7 +7,7 @@ mod print;
 use libc::STDIN_FILENO;
 
 fn main() {
-    let mut text = [0; 655360];
+    let mut text = [0; 524288];
     let count = io::read_full(STDIN_FILENO, &mut text);
     play::play(&text[0..count]);
 }

@@ -1,8 +1,9 @@
 // The commands of a script, a sign each with numbers after it.
-// R, E, P, N, A, I n k w..: a table of n words, the k given ones over and over. M, J n k w..: memory or journal of n words, the k given ones and then marks.
-// t, m, j i w: a word of the tables, which lie 6,150 words apart, of memory or of journal. p done used: the position. = text: a heading up to the line feed.
-// A call with k numbers after it: o 0, open; f k w.., forward with a reply; b 0, back; c 0, check; v 1 row, resolve into memory;
-// s 1 row, the access sets into memory and journal; w 2 first count, a walk's step from the place that `done` is.
+// R, E, P, N, A, I n k w..: a table of n words, the k given ones over and over; G: the numbers that are given to a call.
+// M, J n k w..: memory or journal of n words, the k given ones and then marks. t, m, j i w: a word of the tables, which lie 6,150 words apart, of memory or of journal.
+// p done used: the position. = text: a heading up to the line feed.
+// o: open. f: forward, given a reply. b: back. c: check. v: resolve, given a row, into memory. s: the access sets, given a row, into memory and journal.
+// w: a walk's step, given the first node and the count, from the place that `done` is.
 use crate::call::call;
 use crate::lent::JOURNAL;
 use crate::lent::JOURNAL_WORDS;
@@ -48,19 +49,17 @@ fn command(
 ) -> usize {
     match sign {
         b'=' => heading(text, at),
-        b'R' => set_table(text, at, tables, 0, lengths),
-        b'E' => set_table(text, at, tables, 1, lengths),
-        b'P' => set_table(text, at, tables, 2, lengths),
-        b'N' => set_table(text, at, tables, 3, lengths),
-        b'A' => set_table(text, at, tables, 4, lengths),
-        b'I' => set_table(text, at, tables, 5, lengths),
         b'M' => set_lent(text, at, memory, MEMORY, lengths),
         b'J' => set_lent(text, at, journal, JOURNAL, lengths),
+        b'A'..=b'R' => set_table(sign, text, at, tables, lengths),
         b't' => plant(text, at, tables),
         b'm' => plant(text, at, memory),
         b'j' => plant(text, at, journal),
         b'p' => fill(text, at, position, 2),
-        _ => call(sign, text, at, tables, memory, journal, *lengths, position),
+        _ => {
+            call(sign, tables, memory, journal, *lengths, position);
+            at
+        }
     }
 }
 

@@ -1,4 +1,4 @@
-// The program: `FILE` steps it, `check FILE` tells its verdict, `refusals` the page of refusals.
+// The program: `FILE` steps it, `check FILE` tells its verdict, `check FILE OTHER` that and then steps the other, `refusals` the page of refusals.
 use crate::keys::help;
 use crate::keys::open_file;
 use crate::keys::show;
@@ -66,11 +66,15 @@ fn start(path: &[u8], only_check: bool, desk: Desk) {
     );
 }
 
-// The second argument, for `check FILE`.
+// The second argument, for `check FILE`, and the third, if there is one.
 fn check_file(desk: Desk) {
     let mut path = io::buffer();
     let length = os::arg(2, &mut path);
     start(&path[..length], true, desk);
+    let other = os::arg(3, &mut path);
+    if other > 0 {
+        start(&path[..other], false, desk);
+    }
 }
 
 pub fn run() {
