@@ -6,6 +6,14 @@ use lib.Seq.{sets}
 use Rattle.journal.specs.declared.cells.Write.{Write}
 use Rattle.journal.specs.Cells.{put, held}
 
+-- words in an entry
+abbrev pub entryWidth : ℕ
+entryWidth = 3
+
+-- the most entries of a journal
+abbrev pub entryLimit : ℕ
+entryLimit = 2048
+
 -- an entry's three words
 abbrev pub wordsOf : Write → List ℕ
 wordsOf w = w .cell ∷ w .kind ∷ w .word ∷ []
@@ -30,7 +38,7 @@ closing changes = changes ∷ 0 ∷ 0 ∷ []
 
 -- words stored from an entry on; all other words stay
 unfoldable pub entered : List ℕ → ℕ → List ℕ → List ℕ
-entered journal entry words = sets journal (3 * entry) words
+entered journal entry words = sets journal (entryWidth * entry) words
 
 -- the journal after a step that made the writes on memory, with `used` entries in use before it
 unfoldable pub journaled : List ℕ → ℕ → List ℕ → List Write → List ℕ
@@ -38,11 +46,11 @@ journaled journal used memory ws = entered journal used (log memory ws ++ closin
 
 -- the change count of the closing entry there
 abbrev pub changesAt : List ℕ → ℕ → ℕ
-changesAt journal entry = getD journal (3 * entry) 0
+changesAt journal entry = getD journal (entryWidth * entry) 0
 
 -- the entry of a write there
 abbrev pub entryAt : List ℕ → ℕ → Write
-entryAt journal entry = record { cell = getD journal (3 * entry) 0; kind = getD journal (3 * entry + 1) 0; word = getD journal (3 * entry + 2) 0 }
+entryAt journal entry = record { cell = getD journal (entryWidth * entry) 0; kind = getD journal (entryWidth * entry + 1) 0; word = getD journal (entryWidth * entry + 2) 0 }
 
 -- the n entries from `base` on
 unfoldable pub entriesAt : List ℕ → ℕ → ℕ → List Write

@@ -11,6 +11,8 @@ use crate::cells::put_cell;
 
 // Words in an entry.
 pub const ENTRY_WIDTH: usize = 3;
+// The most entries of a journal.
+pub const ENTRY_LIMIT: usize = 2048;
 
 fn put_entry(journal: &mut [u64], entry: usize, first: u64, second: u64, third: u64)
     requires { ⌜ 3 * entry + 2 < length (now journal) ⌝ }

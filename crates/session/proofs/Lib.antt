@@ -1,5 +1,4 @@
 -- Laws that the proofs share, here and in the crates above.
 pub mod Prepared
 pub mod PositionLaws
-pub mod BackLaws
-pub mod PastLaws
+pub mod LeavesLaws

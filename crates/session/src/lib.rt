@@ -1,5 +1,4 @@
-// A session on lent memory and journal: the looks that its calls share, what they answer, and back on the cells.
+// A session on lent memory and journal: the looks that its calls share, and what they answer.
 pub mod answer;
 pub mod position;
 pub mod prepare;
-pub mod take_back;

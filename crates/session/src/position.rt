@@ -2,13 +2,15 @@
 ghost use mathlib.Core.Path.{_≡_};
 ghost use Prim.Native.Nat.{_+_, _-_, _^_, _≤_, _<_};
 ghost use lib.Dec.{leb};
-ghost use Rattle.session.specs.Forward.{positionFits};
+ghost use Rattle.session.specs.Position.{positionFits};
 use journal::position::Position;
+use tables::rows::INSTRUCTION_WIDTH;
 
-pub fn position_fits(rows: usize, entries: usize, p: Position) -> bool
-    ensures { λ r. ⌜ r ≡ positionFits rows entries p ⌝ }
+pub fn position_fits(instructions: &[u64], entries: usize, p: Position) -> bool
+    ensures { λ r. ⌜ r ≡ positionFits (now (instructions .entry)) entries p ⌝ }
 {
-    (p.done <= rows) & (p.used <= entries)
+    let rows = instructions.len() / INSTRUCTION_WIDTH;
+    (p.row() <= rows) & (p.used <= entries)
 }
 
 // Whether so many changes and the closing entry fit into the entries left.

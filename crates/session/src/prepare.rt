@@ -4,6 +4,7 @@ ghost use Prim.Native.Nat.{_≤_};
 ghost use Rattle.tables.specs.Tables.{tablesOf};
 ghost use Rattle.session.specs.Prepare.{buffersFit, preparedOf, preparedOutcome};
 use journal::cells::CELL_WIDTH;
+use journal::entries::ENTRY_LIMIT;
 use journal::entries::ENTRY_WIDTH;
 use loader::load::load_tables;
 use tables::cells::Cells;
@@ -11,9 +12,6 @@ use tables::cells::cell_count;
 use tables::look::Look;
 use tables::refusal::BUFFER_SIZE;
 use tables::refusal::TOO_MANY_CELLS;
-
-// The most entries of a journal.
-pub const ENTRY_LIMIT: usize = 2048;
 
 // The number of cells, or a refusal by its number.
 pub enum Prepared {

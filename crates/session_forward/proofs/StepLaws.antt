@@ -1,10 +1,11 @@
--- Forward's parts: the row at a position, what its functions ask for, and a step's end, 13 or the writes. Assumes nothing.
+-- Forward's parts: the row at a position, what its functions ask for, a step's end (13 or the writes), and a step in a memory whose first words are the cells.
+-- Assumes nothing.
 use Prim.Native.Nat.{ℕ, _+_, _*_, _-_, _<_, _≤_}
 use mathlib.Core.Bool.{Bool, true, false}
-use mathlib.Core.List.{List, [], _∷_}
+use mathlib.Core.List.{List, [], _∷_, _++_}
 use mathlib.Core.Path.{_≡_, refl}
 use native.Mathlib.Omega.{arith}
-use lib.ListN.{length}
+use lib.ListN.{length, take, drop}
 use lib.Dec.{ltb, leb}
 use borrow.Author.Tests.{ltb-true, leb-true}
 use Rattle.tables.specs.Outcome.{Outcome, ok, refuse, _>>=_, _>>_, need}
@@ -16,25 +17,30 @@ use Rattle.loader.proofs.Loaded.{Loaded, loaded, both, passed, few-instructions
 use Rattle.journal.specs.declared.cells.Write.{Write}
 use Rattle.journal.specs.Each.{Each, none, also}
 use Rattle.journal.specs.declared.position.Position.{Position}
-use Rattle.journal.specs.Position.{advanced}
-use Rattle.journal.specs.Cells.{applied}
-use Rattle.journal.specs.Entries.{journaled}
+use Rattle.journal.specs.Position.{rowOf, advanced}
+use Rattle.journal.specs.Cells.{cellWidth, applied}
+use Rattle.journal.specs.Entries.{entryWidth, journaled}
 use Rattle.machine.specs.Outcome.{outcomeOf, outcomeAt}
 use Rattle.operands.specs.Reach.{There, Layout}
 use Rattle.operands.proofs.Reaches.{in-cells}
 use Rattle.machine.proofs.WritesLaws.{Within}
-use Rattle.session.specs.Prepare.{entriesOf, Ready}
-use Rattle.session.specs.Forward.{rowOf, positionFits, roomFor, stepLook, rowLook, left, stepped}
-use Rattle.session_forward.specs.Step.{currentRow, rowLeaves, Steppable, RowReady}
+use Rattle.tables.specs.Cells.{cellCount}
+use Rattle.session.specs.Prepare.{entriesOf, preparedOf, Ready}
+use Rattle.session.specs.Position.{positionFits, roomFor}
+use Rattle.session.specs.declared.answer.StepAnswer.{StepAnswer}
 use Rattle.session.specs.declared.answer.StepAnswer.the-variants.{Moved, Refused}
-use Rattle.session.proofs.PositionLaws.{fits-used}
+use Rattle.session.proofs.Prepared.{prepared}
+use Rattle.session.proofs.PositionLaws.{fits-used, placed-then}
+use Rattle.session.proofs.LeavesLaws.{tail-kept, all-kept}
+use Rattle.session_forward.specs.Forward.{stepLook, forwardLook, left, stepped, forwardTables}
+use Rattle.session_forward.specs.Step.{rowLook, currentRow, rowLeaves, Steppable, RowReady}
 
 -- ---- the row at a position
 
 module _ (t : Tables) (cells : List ℕ) (entries : ℕ) (p : Position) (reply : List ℕ) where
   row-look : rowLook t cells entries p reply ≡ (currentRow (t .instructions) entries p >>= (λ x. outcomeOf t cells x reply >>= roomFor entries p))
   unfolding rowLook stepLook currentRow outcomeAt _>>=_ _>>_ need
-  row-look = at (positionFits (instructionRows (t .instructions)) entries p) (ltb (rowOf p) (instructionRows (t .instructions)))
+  row-look = at (positionFits (t .instructions) entries p) (ltb (rowOf p) (instructionRows (t .instructions)))
     where
       at : (a b : Bool)
           → (need a 19 >> (need b 11 >> (outcomeOf t cells (instructionAt (t .instructions) (rowOf p)) reply >>= roomFor entries p)))
@@ -60,11 +66,11 @@ pub record Current (instructions : List ℕ) (entries : ℕ) (p : Position) (x :
 pub current : (instructions : List ℕ) (entries : ℕ) (p : Position) {x : Instruction} → currentRow instructions entries p ≡ ok x → Current instructions entries p x
 unfolding currentRow
 current instructions entries p {x} e =
-    let (f, e₁) = passed (positionFits (instructionRows instructions) entries p) _ _ _ e in
+    let (f, e₁) = passed (positionFits instructions entries p) _ _ _ e in
     let (l, e₂) = passed (ltb (rowOf p) (instructionRows instructions)) _ _ _ e₁ in
     record {
       there = ltb-true (rowOf p) (instructionRows instructions) l;
-      used = fits-used (instructionRows instructions) entries p f;
+      used = fits-used instructions entries p f;
       is = cc;
     }
 
@@ -76,7 +82,7 @@ unfolding I.instructionAllowed
 ready-steppable {t} r =
     let l = loaded t (r .loads) in
     record {
-      layout = record { few = r .few; wide = r .wide };
+      layout = r .layout;
       rows = few-instructions l;
       form = λ k h.
           let x = instructionAt (t .instructions) k in
@@ -107,7 +113,7 @@ two-there l (also h (also k none)) = (in-cells l h, in-cells l k)
 -- ---- a step's end
 
 -- room for n changes and the closing entry
-pub room-words : (journal n : ℕ) (p : Position) → leb (n + 1) (entriesOf journal - p .used) ≡ true → 3 * (p .used + (n + 1)) ≤ journal
+pub room-words : (journal n : ℕ) (p : Position) → leb (n + 1) (entriesOf journal - p .used) ≡ true → entryWidth * (p .used + (n + 1)) ≤ journal
 room-words journal n p e = omega (arith, leb-true (n + 1) (entriesOf journal - p .used) e)
 
 module _ (cells journal : List ℕ) (p : Position) (ws : List Write) (n : ℕ) (e : length ws ≡ n) where
@@ -120,3 +126,27 @@ module _ (cells journal : List ℕ) (p : Position) (ws : List Write) (n : ℕ) (
       → left (Moved q) cells′ journal′ ≡ rowLeaves cells journal p (ok ws)
   unfolding rowLeaves roomFor stepped _>>=_ _>>_ need
   roomy h eq ec ej = rw (rw (← e) at h, eq, ← e, ec, ej)
+
+-- ---- in memory
+
+module _ (t : Tables) (memory journal : List ℕ) (p : Position) (reply : List ℕ) where
+  -- the looks behind 4, as `step_row` makes them
+  pub forward-look : forwardLook t memory (length journal) p reply
+      ≡ (preparedOf t (length memory) (length journal) >>= (λ n. rowLook t (take (cellWidth * n) memory) (entriesOf (length journal)) p reply))
+  unfolding forwardLook rowLook
+  forward-look = placed-then t (length memory) (length journal) p (λ n. stepLook t (take (cellWidth * n) memory) (entriesOf (length journal)) p reply)
+
+  -- 1, 2, 3, 10 or 4
+  pub forward-unprepared : {number : ℕ} → preparedOf t (length memory) (length journal) ≡ refuse number
+      → left (Refused number p) memory journal ≡ forwardTables t memory journal p reply
+  unfolding forwardTables stepped _>>=_
+  forward-unprepared {number} e = rw (forward-look, e) (all-kept (cellWidth * cellCount (t .regions)) memory (λ cells. stepped cells journal p (refuse number)) refl)
+
+  -- behind them, with n cells
+  pub forward-on : {n : ℕ} → preparedOf t (length memory) (length journal) ≡ ok n → {a : StepAnswer} {cells journal′ : List ℕ}
+      → left a cells journal′ ≡ stepped (take (cellWidth * n) memory) journal p (rowLook t (take (cellWidth * n) memory) (entriesOf (length journal)) p reply)
+      → left a (cells ++ drop (cellWidth * n) memory) journal′ ≡ forwardTables t memory journal p reply
+  unfolding forwardTables _>>=_
+  forward-on {n} e h =
+      rw (forward-look, e, ← prepared t (length memory) (length journal) e .count)
+      (tail-kept (cellWidth * n) memory (λ cells. stepped cells journal p (rowLook t (take (cellWidth * n) memory) (entriesOf (length journal)) p reply)) h)

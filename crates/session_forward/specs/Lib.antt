@@ -1,2 +1,3 @@
--- Forward on the cells: what its functions ask for and answer.
+-- Forward: its looks and what it leaves (Forward), and what its functions ask for and answer (Step).
+pub mod Forward
 pub mod Step

@@ -10,7 +10,7 @@ ghost use Rattle.journal.specs.Entries.{wordsOf, entered, journaled};
 ghost use Rattle.call_reply.specs.Call.{replyRows, replyWrite, replyWrites, callOutcome};
 ghost use Rattle.operands.specs.Reach.{Layout};
 ghost use Rattle.call_reply.specs.Reach.{Replied};
-ghost use Rattle.session.specs.Forward.{left};
+ghost use Rattle.session_forward.specs.Forward.{left};
 ghost use Rattle.session_forward.specs.Step.{rowLeaves, Placed, Replying};
 use call_reply::call::judge_call;
 use call_reply::call::reply_write;

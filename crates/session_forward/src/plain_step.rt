@@ -6,7 +6,7 @@ ghost use lib.ListN.{length};
 ghost use Rattle.tables.specs.Outcome.{ok};
 ghost use Rattle.machine.specs.Outcome.{plainOutcome};
 ghost use Rattle.machine.specs.Reach.{Opened};
-ghost use Rattle.session.specs.Forward.{left};
+ghost use Rattle.session_forward.specs.Forward.{left};
 ghost use Rattle.session_forward.specs.Step.{rowLeaves, Placed};
 use journal::cells::Write;
 use journal::entries::ENTRY_WIDTH;

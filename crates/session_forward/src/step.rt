@@ -5,9 +5,9 @@ ghost use Prim.Native.Nat.{ℕ};
 ghost use lib.ListN.{length};
 ghost use Rattle.tables.specs.Tables.{tablesOf};
 ghost use Rattle.session.specs.Prepare.{entriesOf};
-ghost use Rattle.session.specs.Forward.{rowLook, left, stepped};
 ghost use Rattle.machine.specs.Outcome.{outcomeOf};
-ghost use Rattle.session_forward.specs.Step.{currentRow, nextOutcome, rowLeaves, Steppable, RowReady};
+ghost use Rattle.session_forward.specs.Forward.{left, stepped};
+ghost use Rattle.session_forward.specs.Step.{rowLook, currentRow, nextOutcome, rowLeaves, Steppable, RowReady};
 use crate::call_step::call_step;
 use crate::plain_step::plain_step;
 use journal::entries::ENTRY_WIDTH;
@@ -29,15 +29,14 @@ pub enum NextRow {
     Refused(u64),
 }
 
-pub fn next_row(instructions: &[u64], entries: usize, p: Position) -> NextRow
+fn next_row(instructions: &[u64], entries: usize, p: Position) -> NextRow
     ensures { λ r. ⌜ nextOutcome r ≡ currentRow (now (instructions .entry)) entries p ⌝ }
 {
-    let row = p.done;
-    let rows = instructions.len() / INSTRUCTION_WIDTH;
-    if !position_fits(rows, entries, p) {
+    let row = p.row();
+    if !position_fits(instructions, entries, p) {
         return NextRow::Refused(FOREIGN_POSITION);
     }
-    if rows <= row {
+    if instructions.len() / INSTRUCTION_WIDTH <= row {
         return NextRow::Refused(AT_END);
     }
     NextRow::At(instruction_at(instructions, row))

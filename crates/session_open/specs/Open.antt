@@ -1,9 +1,10 @@
 -- 01, Order: "Open: 1, 2, 3, 10, 4, 5, 9, then 6, 7, 8 by row."
 use Prim.Native.Nat.{ℕ, _*_, _<_}
 use mathlib.Core.Bool.{Bool, true, false, not, cond}
-use mathlib.Core.List.{List, [], _++_}
+use mathlib.Core.List.{List, []}
 use mathlib.Core.Path.{_≡_}
-use lib.ListN.{length, drop}
+use lib.ListN.{length}
+use Rattle.tables.specs.Family as family
 use Rattle.tables.specs.Refusal.{otherInstruction}
 use Rattle.tables.specs.Outcome.{Outcome, ok, refuse, _>>_, need}
 use Rattle.tables.specs.First.{first, every}
@@ -16,11 +17,13 @@ use Rattle.type_check.specs.declared.error.TypeError.{TypeError}
 use Rattle.type_check.specs.declared.error.Verdict.{Verdict}
 use Rattle.type_check.specs.declared.error.Verdict.the-variants as T
 use Rattle.extern_call.specs.Call.{CallRanges, resolvesCall}
-use Rattle.journal.specs.declared.position.Position.{Position}
+use Rattle.journal.specs.Position.{firstPosition}
+use Rattle.journal.specs.Cells.{cellWidth}
 use Rattle.operands.specs.Kinds.{zeros}
 use Rattle.operands.specs.Reach.{Layout}
 use Rattle.machine.specs.Outcome.{isCall, isOther}
 use Rattle.session.specs.Prepare.{preparedOf}
+use Rattle.session.specs.Leaves.{Leaves, leaves, withTail}
 use Rattle.session.specs.declared.answer.OpenAnswer.{OpenAnswer}
 use Rattle.session.specs.declared.answer.OpenAnswer.the-variants.{Opened, Refused, Error}
 
@@ -54,51 +57,61 @@ programLook t = need (noOther (t .instructions)) otherInstruction >> callsLook t
 
 -- What the functions over a program's CALLs ask for, index safety alone; and their tables, as a CALL looks at no node.
 pub record CallsInside (externs parameters arguments instructions : List ℕ) : Type 0 where
-  pub row : (k : ℕ) → k < instructionRows instructions → instructionAt instructions k .family ≡ 9
+  pub row : (k : ℕ) → k < instructionRows instructions → instructionAt instructions k .family ≡ family.call
       → CallRanges externs parameters arguments (instructionAt instructions k)
 
 abbrev pub callTables : List ℕ → List ℕ → List ℕ → List ℕ → List ℕ → Tables
 callTables regions externs parameters arguments instructions = tablesOf regions externs parameters [] arguments instructions
 
--- ---- what open leaves
+-- ---- the verdict
 
--- "gives position 0, 0"
-abbrev pub start : Position
-start = record { done = 0; used = 0 }
+-- nothing against the program, a refusal by its number, or 5 with the type error
+pub data OpenLook : Type 0 where
+  accepted : OpenLook
+  refused : ℕ → OpenLook
+  mistyped : TypeError → OpenLook
 
-pub record Opening : Type 0 where
-  pub answer : OpenAnswer
-  pub memory : List ℕ
+-- the first look that turns the program down is the verdict
+abbrev pub unlessRefused : {A : Type 0} → Outcome A → OpenLook → OpenLook
+unlessRefused (ok a) rest = rest
+unlessRefused (refuse number) rest = refused number
+
+abbrev pub unlessError : Verdict → OpenLook → OpenLook
+unlessError T.Accepted rest = rest
+unlessError (T.Error e) rest = mistyped e
+
+-- "5, 9, then 6, 7, 8 by row": with the tables' looks before them these are open's without the buffers
+unfoldable pub programVerdict : Tables → OpenLook
+programVerdict t =
+    unlessError (checkOf (t .regions) (t .nodes) (t .instructions))
+    (unlessRefused (programLook t)
+    accepted)
+
+-- all of them; memory and journal are lengths in words
+unfoldable pub openVerdict : Tables → ℕ → ℕ → OpenLook
+openVerdict t memory journal = unlessRefused (preparedOf t memory journal) (programVerdict t)
+
+-- ---- what open leaves; it writes no journal word
+
+abbrev pub Opening : Type 0
+Opening = Leaves OpenAnswer (Unit {0})
 
 abbrev pub opening : OpenAnswer → List ℕ → Opening
-opening answer memory = record { answer = answer; memory = memory }
+opening answer memory = leaves answer memory tt
 
--- "A refusal .. writes nothing"
-abbrev pub unlessRefused : {A : Type 0} → List ℕ → Outcome A → Opening → Opening
-unlessRefused memory (ok a) rest = rest
-unlessRefused memory (refuse number) rest = opening (Refused number) memory
-
--- 5, with the type error
-abbrev pub unlessError : List ℕ → Verdict → Opening → Opening
-unlessError memory T.Accepted rest = rest
-unlessError memory (T.Error e) rest = opening (Error e) memory
-
--- on the cells alone, from 5 on
-unfoldable pub openCells : Tables → List ℕ → Opening
-openCells t cells =
-    unlessError cells (checkOf (t .regions) (t .nodes) (t .instructions))
-    (unlessRefused cells (programLook t)
-    (opening (Opened start) (zeros (t .regions))))
+-- on the cells of the regions: "Open zeroes each cell with its declared kind .. and gives position 0, 0"; "A refusal .. writes nothing"
+unfoldable pub openCells : List ℕ → List ℕ → OpenLook → Opening
+openCells regions cells accepted = opening (Opened firstPosition) (zeros regions)
+openCells regions cells (refused number) = opening (Refused number) cells
+openCells regions cells (mistyped e) = opening (Error e) cells
 
 -- What the function behind it asks for: the tables are loaded, and the cells are those of their regions.
 pub record Openable (t : Tables) (cells : List ℕ) : Type 0 where
   pub loads : loadLook t ≡ ok tt
   pub layout : Layout (t .regions) cells
 
--- "Open zeroes each cell with its declared kind, leaves memory past the cells and the journal, and gives position 0, 0." Of the journal it takes the length alone.
+-- It "leaves memory past the cells and the journal", of which it takes the length alone.
 unfoldable pub openTables : Tables → List ℕ → ℕ → Opening
 openTables t memory journal =
-    unlessRefused memory (preparedOf t (length memory) journal)
-    (unlessError memory (checkOf (t .regions) (t .nodes) (t .instructions))
-    (unlessRefused memory (programLook t)
-    (opening (Opened start) (zeros (t .regions) ++ drop (2 * cellCount (t .regions)) memory))))
+    withTail (cellWidth * cellCount (t .regions)) memory
+    (λ cells. openCells (t .regions) cells (openVerdict t (length memory) journal))

@@ -1,7 +1,7 @@
 // Open on the cells alone: the program is judged whole before a cell is written.
 ghost use mathlib.Core.Path.{_≡_};
 ghost use Rattle.tables.specs.Tables.{tablesOf};
-ghost use Rattle.session_open.specs.Open.{opening, openCells, Openable};
+ghost use Rattle.session_open.specs.Open.{opening, programVerdict, openCells, Openable};
 use crate::program::program_look;
 use crate::zero::zero_cells;
 use journal::position::Position;
@@ -20,7 +20,7 @@ pub fn open_cells(
     cells: &mut [u64],
 ) -> OpenAnswer
     requires { ⌜ Openable (tablesOf (now regions) (now externs) (now parameters) (now nodes) (now arguments) (now instructions)) (now cells) ⌝ }
-    ensures { λ r. ⌜ opening r (now (cells .exit)) ≡ openCells (tablesOf (now (regions .entry)) (now (externs .entry)) (now (parameters .entry)) (now (nodes .entry)) (now (arguments .entry)) (now (instructions .entry))) (now (cells .entry)) ⌝ }
+    ensures { λ r. ⌜ opening r (now (cells .exit)) ≡ openCells (now (regions .entry)) (now (cells .entry)) (programVerdict (tablesOf (now (regions .entry)) (now (externs .entry)) (now (parameters .entry)) (now (nodes .entry)) (now (arguments .entry)) (now (instructions .entry)))) ⌝ }
 {
     let verdict = check_program(regions, nodes, instructions);
     if let Verdict::Error(error) = verdict {
@@ -31,5 +31,5 @@ pub fn open_cells(
         return OpenAnswer::Refused(number);
     }
     zero_cells(regions, cells);
-    OpenAnswer::Opened(Position { done: 0, used: 0 })
+    OpenAnswer::Opened(Position::first())
 }

@@ -1,7 +1,7 @@
 use Rattle.tables.specs.Outcome.{_>>=_, seen}
 use Rattle.extern_call.specs.Call.{callAnswer}
 use Rattle.call_reply.specs.Call.{callOutcome}
-use Rattle.session.specs.Forward.{stepped}
+use Rattle.session_forward.specs.Forward.{stepped}
 use Rattle.session_forward.specs.Step.{rowLeaves}
 use Rattle.session_forward.proofs.CallLaws.{judged-replying}
 use borrow.Author.Needs.{needs}

@@ -1,7 +1,7 @@
 use Rattle.tables.specs.Outcome.{_>>=_, seen}
 use Rattle.machine.specs.Outcome.{rowOutcome}
 use Rattle.machine.proofs.WritesLaws.{writes-within}
-use Rattle.session.specs.Forward.{stepped}
+use Rattle.session_forward.specs.Forward.{stepped}
 use Rattle.session_forward.specs.Step.{rowLeaves}
 use Rattle.session_forward.proofs.StepLaws.{one-there, two-there}
 use borrow.Author.Needs.{needs}

@@ -4,7 +4,7 @@ use borrow.Author.Needs.{needs}
 use borrow.Author.Tests.{eq-eqb, ne-eqb}
 use Rattle.tables.specs.Outcome.{_>>=_, _>>_, need}
 use Rattle.machine.specs.Outcome.{isOther, outcomeOf}
-use Rattle.session.specs.Forward.{stepped}
+use Rattle.session_forward.specs.Forward.{stepped}
 use Rattle.session_forward.specs.Step.{rowLeaves}
 use Rattle.session_forward.proofs.step.any_step.Statement.{statement}
 use Rattle.session_forward.proofs.step.any_step.Tie as tie

@@ -6,7 +6,7 @@ use borrow.Author.Needs.{needs}
 use Rattle.tables.specs.Outcome.{ok, seen}
 use Rattle.tables.specs.Tables.{Tables, tablesOf}
 use Rattle.session.specs.Prepare.{entriesOf}
-use Rattle.session.specs.Forward.{stepped}
+use Rattle.session_forward.specs.Forward.{stepped}
 use Rattle.session_forward.specs.Step.{currentRow, nextOutcome, rowLeaves}
 use Rattle.session_forward.proofs.StepLaws.{row-refused, row-taken, row-ready}
 use Rattle.session_forward.proofs.step.step_row.Statement.{statement}

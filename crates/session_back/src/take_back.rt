@@ -2,16 +2,17 @@
 ghost use mathlib.Core.Path.{_≡_};
 ghost use Prim.Native.Nat.{_/_};
 ghost use lib.ListN.{length};
-ghost use Rattle.session.specs.Back.{takeBackLook, takenBack, backed};
-ghost use Rattle.session.specs.TakeBack.{takeBackOutcome};
-use crate::answer::StepAnswer;
-use crate::position::position_fits;
+ghost use Rattle.journal.specs.Cells.{cellWidth};
+ghost use Rattle.session_back.specs.Back.{takenBack, backed};
+ghost use Rattle.session_back.specs.TakeBack.{takeBackLook, takeBackOutcome};
 use journal::cells::CELL_WIDTH;
 use journal::entries::ENTRY_WIDTH;
 use journal::entries::changes_at;
 use journal::position::Position;
 use journal::restore::readable;
 use journal::restore::undo;
+use session::answer::StepAnswer;
+use session::position::position_fits;
 use tables::refusal::FOREIGN_POSITION;
 use tables::refusal::NOTHING_TO_TAKE_BACK;
 
@@ -21,12 +22,12 @@ pub enum TakeBack {
     Refused(u64),
 }
 
-pub fn look_back(rows: usize, cells: usize, journal: &[u64], p: Position) -> TakeBack
-    ensures { λ r. ⌜ takeBackOutcome r ≡ takeBackLook rows cells (now (journal .entry)) p ⌝ }
+fn look_back(instructions: &[u64], cells: usize, journal: &[u64], p: Position) -> TakeBack
+    ensures { λ r. ⌜ takeBackOutcome r ≡ takeBackLook (now (instructions .entry)) cells (now (journal .entry)) p ⌝ }
 {
     let done = p.done;
     let used = p.used;
-    if !position_fits(rows, journal.len() / ENTRY_WIDTH, p) {
+    if !position_fits(instructions, journal.len() / ENTRY_WIDTH, p) {
         return TakeBack::Refused(FOREIGN_POSITION);
     }
     if done == 0 {
@@ -45,11 +46,16 @@ pub fn look_back(rows: usize, cells: usize, journal: &[u64], p: Position) -> Tak
     TakeBack::Changes(changes)
 }
 
-pub fn take_back(rows: usize, cells: &mut [u64], journal: &[u64], p: Position) -> StepAnswer
-    ensures { λ r. ⌜ backed r (now (cells .exit)) ≡ takenBack (now (cells .entry)) (now (journal .entry)) p (takeBackLook rows (length (now (cells .entry)) / 2) (now (journal .entry)) p) ⌝ }
+pub fn take_back(
+    instructions: &[u64],
+    cells: &mut [u64],
+    journal: &[u64],
+    p: Position,
+) -> StepAnswer
+    ensures { λ r. ⌜ backed r (now (cells .exit)) ≡ takenBack (now (cells .entry)) (now (journal .entry)) p (takeBackLook (now (instructions .entry)) (length (now (cells .entry)) / cellWidth) (now (journal .entry)) p) ⌝ }
 {
     let used = p.used;
-    let look = look_back(rows, cells.len() / CELL_WIDTH, journal, p);
+    let look = look_back(instructions, cells.len() / CELL_WIDTH, journal, p);
     match look {
         TakeBack::Refused(number) => StepAnswer::Refused(number, p),
         TakeBack::Changes(changes) => {

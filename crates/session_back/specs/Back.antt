@@ -1,21 +1,21 @@
 -- 01, Order: "Back: 1, 2, 3, 10, 4, 19 position, 12, 19 journal (none used, count over what remains, cell absent)."
 use Prim.Native.Nat.{ℕ, _+_, _*_, _-_}
-use mathlib.Core.List.{List, _++_}
-use lib.ListN.{length, take, drop}
+use mathlib.Core.List.{List}
+use lib.ListN.{length}
 use lib.Dec.{ltb}
 use Rattle.tables.specs.Refusal.{nothingToTakeBack, foreignPosition}
 use Rattle.tables.specs.Outcome.{Outcome, ok, refuse, _>>=_, _>>_, need}
 use Rattle.tables.specs.Tables.{Tables}
-use Rattle.tables.specs.Rows.{instructionRows}
 use Rattle.tables.specs.Cells.{cellCount}
 use Rattle.journal.specs.declared.position.Position.{Position}
 use Rattle.journal.specs.Position.{retreated}
+use Rattle.journal.specs.Cells.{cellWidth}
 use Rattle.journal.specs.Entries.{changesAt, entriesAt}
 use Rattle.journal.specs.Restore.{present, undone}
-use Rattle.session.specs.Prepare.{entriesOf, preparedOf}
-use Rattle.session.specs.Forward.{positionFits}
+use Rattle.session.specs.Position.{placedLook}
+use Rattle.session.specs.Leaves.{Leaves, leaves, withTail}
 use Rattle.session.specs.declared.answer.StepAnswer.{StepAnswer}
 use Rattle.session.specs.declared.answer.StepAnswer.the-variants.{Moved, Refused}
 
 -- ---- the looks
 
@@ -36,36 +36,26 @@ journalLook cells journal p = do
   need (present cells (entriesAt journal (firstEntry p (lastChanges journal p)) (lastChanges journal p))) foreignPosition
   ok (lastChanges journal p)
 
--- from 19 on
-unfoldable pub takeBackLook : ℕ → ℕ → List ℕ → Position → Outcome ℕ
-takeBackLook rows cells journal p = do
-  need (positionFits rows (entriesOf (length journal)) p) foreignPosition
-  journalLook cells journal p
-
 -- all of them; memory's length in words
 unfoldable pub backLook : Tables → ℕ → List ℕ → Position → Outcome ℕ
 backLook t memory journal p = do
-  n ← preparedOf t memory (length journal)
-  takeBackLook (instructionRows (t .instructions)) n journal p
+  n ← placedLook t memory (length journal) p
+  journalLook n journal p
 
 -- ---- what back leaves; it writes no journal word
 
-pub record Back : Type 0 where
-  pub answer : StepAnswer
-  pub memory : List ℕ
+abbrev pub Back : Type 0
+Back = Leaves StepAnswer (Unit {0})
 
 abbrev pub backed : StepAnswer → List ℕ → Back
-backed answer memory = record { answer = answer; memory = memory }
+backed answer memory = leaves answer memory tt
 
--- on the cells alone: "Back restores in reverse."
+-- on the cells: "Back restores in reverse."
 unfoldable pub takenBack : List ℕ → List ℕ → Position → Outcome ℕ → Back
 takenBack cells journal p (refuse number) = backed (Refused number p) cells
 takenBack cells journal p (ok changes) = backed (Moved (retreated p changes)) (undone journal (firstEntry p changes) changes cells)
 
--- in a memory whose first w words are the cells: those past them stay
-unfoldable pub backLeaves : ℕ → List ℕ → List ℕ → Position → Outcome ℕ → Back
-backLeaves w memory journal p (refuse number) = backed (Refused number p) memory
-backLeaves w memory journal p (ok changes) = backed (Moved (retreated p changes)) (undone journal (firstEntry p changes) changes (take w memory) ++ drop w memory)
-
 unfoldable pub backTables : Tables → List ℕ → List ℕ → Position → Back
-backTables t memory journal p = backLeaves (2 * cellCount (t .regions)) memory journal p (backLook t (length memory) journal p)
+backTables t memory journal p =
+    withTail (cellWidth * cellCount (t .regions)) memory
+    (λ cells. takenBack cells journal p (backLook t (length memory) journal p))
