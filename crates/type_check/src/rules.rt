@@ -29,17 +29,16 @@ use words::kind::OCTET;
 use words::kind::REAL;
 use words::kind::REAL_LITERAL;
 
-// The kinds of a row's first and second operand. The first that is undeclared ends the look.
+// The kinds of a row's first and second operand, or the error of the first that is undeclared.
 pub enum Pair {
-    NoFirst,
-    NoSecond,
+    Error(Verdict),
     Kinds(u64, u64),
 }
 
-// How a source goes with the kind of another operand; a misfit comes with its code.
+// How a source goes with the kind of another operand: a misfit comes with its code, an undeclared source as its error.
 pub enum Fit {
     Fits,
-    Absent,
+    Error(Verdict),
     Misfits(u64),
 }
 
@@ -100,11 +99,11 @@ pub fn type_check_arithmetic(regions: &[u64], row: u64, x: Instruction) -> Verdi
     }
 }
 
-fn reference_fit(regions: &[u64], kind: u64, name: u64) -> Fit
-    ensures { λ r. ⌜ r ≡ fitOf kind (codeOf (now (regions .entry)) name) ⌝ }
+fn reference_fit(regions: &[u64], row: u64, spot: u64, kind: u64, name: u64) -> Fit
+    ensures { λ r. ⌜ r ≡ fitOf row spot kind (codeOf (now (regions .entry)) name) ⌝ }
 {
     let Found::At(region) = lookup_region(regions, name) else {
-        return Fit::Absent;
+        return Fit::Error(undefined_memory_reference(row, spot));
     };
     let source = kind_at(regions, region);
     if kind == source {
@@ -114,8 +113,9 @@ fn reference_fit(regions: &[u64], kind: u64, name: u64) -> Fit
     }
 }
 
-fn source_fit(regions: &[u64], kind: u64, x: Instruction) -> Fit
-    ensures { λ r. ⌜ r ≡ fitOf kind (operandCode (now (regions .entry)) x) ⌝ }
+// `spot` is the one that an error names where the source is undeclared.
+fn source_fit(regions: &[u64], row: u64, spot: u64, kind: u64, x: Instruction) -> Fit
+    ensures { λ r. ⌜ r ≡ fitOf row spot kind (operandCode (now (regions .entry)) x) ⌝ }
 {
     let form = x.source_form;
     match form {
@@ -127,7 +127,7 @@ fn source_fit(regions: &[u64], kind: u64, x: Instruction) -> Fit
             BIT..=OCTET => Fit::Misfits(REAL_LITERAL),
             _ => Fit::Fits,
         },
-        _ => reference_fit(regions, kind, x.source_first),
+        _ => reference_fit(regions, row, spot, kind, x.source_first),
     }
 }
 
@@ -135,21 +135,21 @@ fn source_fit(regions: &[u64], kind: u64, x: Instruction) -> Fit
 fn check_source(regions: &[u64], row: u64, spot: u64, kind: u64, x: Instruction) -> Verdict
     ensures { λ r. ⌜ r ≡ verdictAt row (sourceRule spot kind (operandCode (now (regions .entry)) x)) ⌝ }
 {
-    match source_fit(regions, kind, x) {
+    match source_fit(regions, row, SOURCE, kind, x) {
         Fit::Fits => Verdict::Accepted,
-        Fit::Absent => undefined_memory_reference(row, SOURCE),
+        Fit::Error(error) => error,
         Fit::Misfits(source) => data_type_mismatch(row, spot, SOURCE, kind, source),
     }
 }
 
-fn pair_of(regions: &[u64], x: Instruction) -> Pair
-    ensures { λ r. ⌜ r ≡ pairOf (firstCode (now (regions .entry)) x) (secondCode (now (regions .entry)) x) ⌝ }
+fn pair_of(regions: &[u64], row: u64, x: Instruction) -> Pair
+    ensures { λ r. ⌜ r ≡ pairOf row (firstCode (now (regions .entry)) x) (secondCode (now (regions .entry)) x) ⌝ }
 {
     let Found::At(first) = lookup_region(regions, x.first_name) else {
-        return Pair::NoFirst;
+        return Pair::Error(undefined_memory_reference(row, FIRST));
     };
     let Found::At(second) = lookup_region(regions, x.second_name) else {
-        return Pair::NoSecond;
+        return Pair::Error(undefined_memory_reference(row, SECOND));
     };
     Pair::Kinds(kind_at(regions, first), kind_at(regions, second))
 }
@@ -157,9 +157,8 @@ fn pair_of(regions: &[u64], x: Instruction) -> Pair
 pub fn type_check_comparison(regions: &[u64], row: u64, x: Instruction) -> Verdict
     ensures { λ r. ⌜ r ≡ verdictAt row (comparisonRule (firstCode (now (regions .entry)) x) (secondCode (now (regions .entry)) x) (operandCode (now (regions .entry)) x)) ⌝ }
 {
-    match pair_of(regions, x) {
-        Pair::NoFirst => undefined_memory_reference(row, FIRST),
-        Pair::NoSecond => undefined_memory_reference(row, SECOND),
+    match pair_of(regions, row, x) {
+        Pair::Error(error) => error,
         Pair::Kinds(destination, lhs) => match destination {
             BIT => check_source(regions, row, SECOND, lhs, x),
             _ => operator_operand_mismatch(row, FIRST, destination, BIT_ONLY),
@@ -239,9 +238,8 @@ pub fn type_check_move(regions: &[u64], row: u64, x: Instruction) -> Verdict
 pub fn type_check_exchange(regions: &[u64], row: u64, x: Instruction) -> Verdict
     ensures { λ r. ⌜ r ≡ verdictAt row (exchangeRule (firstCode (now (regions .entry)) x) (secondCode (now (regions .entry)) x)) ⌝ }
 {
-    match pair_of(regions, x) {
-        Pair::NoFirst => undefined_memory_reference(row, FIRST),
-        Pair::NoSecond => undefined_memory_reference(row, SECOND),
+    match pair_of(regions, row, x) {
+        Pair::Error(error) => error,
         Pair::Kinds(left, right) => {
             if left == right {
                 Verdict::Accepted
@@ -275,9 +273,8 @@ fn load_offset(regions: &[u64], row: u64, destination: u64, source: u64, name: u
 pub fn type_check_load(regions: &[u64], row: u64, x: Instruction) -> Verdict
     ensures { λ r. ⌜ r ≡ verdictAt row (loadRule (firstCode (now (regions .entry)) x) (secondCode (now (regions .entry)) x) (referenceCode (now (regions .entry)) x)) ⌝ }
 {
-    match pair_of(regions, x) {
-        Pair::NoFirst => undefined_memory_reference(row, FIRST),
-        Pair::NoSecond => undefined_memory_reference(row, SECOND),
+    match pair_of(regions, row, x) {
+        Pair::Error(error) => error,
         Pair::Kinds(destination, source) => {
             load_offset(regions, row, destination, source, x.source_first)
         }
@@ -288,9 +285,9 @@ pub fn type_check_load(regions: &[u64], row: u64, x: Instruction) -> Verdict
 fn store_source(regions: &[u64], row: u64, destination: u64, x: Instruction) -> Verdict
     ensures { λ r. ⌜ r ≡ verdictAt row (storeSource destination (operandCode (now (regions .entry)) x)) ⌝ }
 {
-    match source_fit(regions, destination, x) {
+    match source_fit(regions, row, STORE_SOURCE, destination, x) {
         Fit::Fits => Verdict::Accepted,
-        Fit::Absent => undefined_memory_reference(row, STORE_SOURCE),
+        Fit::Error(error) => error,
         Fit::Misfits(source) => data_type_mismatch(row, SOURCE, FIRST, source, destination),
     }
 }
@@ -298,9 +295,8 @@ fn store_source(regions: &[u64], row: u64, destination: u64, x: Instruction) -> 
 pub fn type_check_store(regions: &[u64], row: u64, x: Instruction) -> Verdict
     ensures { λ r. ⌜ r ≡ verdictAt row (storeRule (firstCode (now (regions .entry)) x) (secondCode (now (regions .entry)) x) (operandCode (now (regions .entry)) x)) ⌝ }
 {
-    match pair_of(regions, x) {
-        Pair::NoFirst => undefined_memory_reference(row, FIRST),
-        Pair::NoSecond => undefined_memory_reference(row, SECOND),
+    match pair_of(regions, row, x) {
+        Pair::Error(error) => error,
         Pair::Kinds(destination, offset) => match offset {
             INTEGER => store_source(regions, row, destination, x),
             _ => operator_operand_mismatch(row, SECOND, offset, INTEGRAL),

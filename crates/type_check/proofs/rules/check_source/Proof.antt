@@ -10,11 +10,8 @@ source-fit-requires c κs = search needs
 enum-told : tie.Need-enum-told
 enum-told c = search needs
 
-enum-told-2 : tie.Need-enum-told-2
-enum-told-2 c = search needs
-
-undefined-memory-reference-requires : tie.Need-undefined-memory-reference-requires
-undefined-memory-reference-requires c κs = search needs
+enum-known-error : tie.Need-enum-known-error
+enum-known-error c = search needs
 
 enum-known-source : tie.Need-enum-known-source
 enum-known-source c = search needs
@@ -24,15 +21,15 @@ data-type-mismatch-requires c κs = search needs
 
 returns : tie.Need-returns
 unfolding sourceRule
-returns c = let h = fit-told _ _ (c .before .before .source-fit .ensures) (c .enum-told .given .1) in rw (h .0, h .1)
+returns c = let h = fit-told _ _ _ _ (c .before .before .source-fit .ensures) (c .enum-told .given .1) in rw (h .0, h .1)
 
 returns-2 : tie.Need-returns-2
 unfolding sourceRule
-returns-2 c = let h = fit-told _ _ (c .before .before .before .source-fit .ensures) (c .before .enum-told2 .given .1) in rw h (c .undefined-memory-reference .ensures)
+returns-2 c = let h = fit-told _ _ _ _ (c .before .before .before .source-fit .ensures) (c .before .error .given .1) in rw (h .0) (h .1)
 
 returns-3 : tie.Need-returns-3
 unfolding sourceRule
-returns-3 c = let h = fit-told _ _ (c .before .before .before .before .source-fit .ensures) (c .before .before .source .given .1) in rw (h .0, h .1, h .2) (c .data-type-mismatch .ensures)
+returns-3 c = let h = fit-told _ _ _ _ (c .before .before .before .before .source-fit .ensures) (c .before .before .source .given .1) in rw (h .0, h .1, h .2) (c .data-type-mismatch .ensures)
 
 pub check-source-spec : {M : Type 1} → statement M
 check-source-spec =
@@ -40,8 +37,7 @@ check-source-spec =
     (tie.spec
     source-fit-requires
     enum-told
-    enum-told-2
-    undefined-memory-reference-requires
+    enum-known-error
     enum-known-source
     data-type-mismatch-requires
     returns

@@ -21,9 +21,12 @@ enum-known-first c = search needs
 enum-told : tie.Need-enum-told
 enum-told c = search needs
 
+undefined-memory-reference-requires : tie.Need-undefined-memory-reference-requires
+undefined-memory-reference-requires c κs = search needs
+
 returns : tie.Need-returns
 unfolding pairOf
-returns c = rw (code-none _ _ (c .before .before .lookup-region .ensures) (c .enum-told .given .1))
+returns c = rw (code-none _ _ (c .before .before .before .lookup-region .ensures) (c .before .enum-told .given .1), c .undefined-memory-reference .ensures)
 
 lookup-region-requires-2 : tie.Need-lookup-region-requires-2
 lookup-region-requires-2 c κs = search needs
@@ -34,9 +37,12 @@ enum-known-second c = search needs
 enum-told-2 : tie.Need-enum-told-2
 enum-told-2 c = search needs
 
+undefined-memory-reference-requires-2 : tie.Need-undefined-memory-reference-requires-2
+undefined-memory-reference-requires-2 c κs = search needs
+
 returns-2 : tie.Need-returns-2
 unfolding pairOf
-returns-2 c = rw (code-declared _ _ (c .before .before .before .before .before .before .lookup-region .ensures) (c .before .before .before .before .first .given .1), code-none _ _ (c .before .before .lookup-region2 .ensures) (c .enum-told2 .given .1))
+returns-2 c = rw (code-declared _ _ (c .before .before .before .before .before .before .before .lookup-region .ensures) (c .before .before .before .before .before .first .given .1), code-none _ _ (c .before .before .before .lookup-region2 .ensures) (c .before .enum-told2 .given .1), c .undefined-memory-reference2 .ensures)
 
 kind-at-requires : tie.Need-kind-at-requires
 kind-at-requires c κs = lookup-within _ _ _ _ (sym (c .before .before .before .before .before .before .before .lookup-region .ensures) ∙ c .before .before .before .before .before .first .given .1)
@@ -55,10 +61,12 @@ pair-of-spec =
     lookup-region-requires
     enum-known-first
     enum-told
+    undefined-memory-reference-requires
     returns
     lookup-region-requires-2
     enum-known-second
     enum-told-2
+    undefined-memory-reference-requires-2
     returns-2
     kind-at-requires
     kind-at-requires-2

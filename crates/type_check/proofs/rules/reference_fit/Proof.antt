@@ -19,9 +19,12 @@ enum-known-region c = search needs
 enum-told : tie.Need-enum-told
 enum-told c = search needs
 
+undefined-memory-reference-requires : tie.Need-undefined-memory-reference-requires
+undefined-memory-reference-requires c κs = search needs
+
 returns : tie.Need-returns
 unfolding fitOf
-returns c = rw (code-none _ _ (c .before .before .lookup-region .ensures) (c .enum-told .given .1))
+returns c = rw (code-none _ _ (c .before .before .before .lookup-region .ensures) (c .before .enum-told .given .1), c .undefined-memory-reference .ensures)
 
 kind-at-requires : tie.Need-kind-at-requires
 kind-at-requires c κs = lookup-within _ _ _ _ (sym (c .before .before .before .lookup-region .ensures) ∙ c .before .region .given .1)
@@ -41,6 +44,7 @@ reference-fit-spec =
     lookup-region-requires
     enum-known-region
     enum-told
+    undefined-memory-reference-requires
     returns
     kind-at-requires
     returns-2

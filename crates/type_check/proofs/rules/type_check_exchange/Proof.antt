@@ -8,17 +8,8 @@ use Rattle.type_check.proofs.rules.type_check_exchange.Tie as tie
 pair-of-requires : tie.Need-pair-of-requires
 pair-of-requires c κs = search needs
 
-enum-told : tie.Need-enum-told
-enum-told c = search needs
-
-undefined-memory-reference-requires : tie.Need-undefined-memory-reference-requires
-undefined-memory-reference-requires c κs = search needs
-
-enum-told-2 : tie.Need-enum-told-2
-enum-told-2 c = search needs
-
-undefined-memory-reference-requires-2 : tie.Need-undefined-memory-reference-requires-2
-undefined-memory-reference-requires-2 c κs = search needs
+enum-known-error : tie.Need-enum-known-error
+enum-known-error c = search needs
 
 enum-known-left : tie.Need-enum-known-left
 enum-known-left c = search needs
@@ -28,32 +19,24 @@ data-type-mismatch-requires c κs = search needs
 
 returns : tie.Need-returns
 unfolding exchangeRule
-returns c = let h = pair-told _ _ (c .before .before .before .pair-of .ensures) (c .before .enum-told .given .1) in rw h (c .undefined-memory-reference .ensures)
+returns c = pair-told _ _ _ (c .before .before .before .pair-of .ensures) (c .before .error .given .1) _
 
 returns-2 : tie.Need-returns-2
 unfolding exchangeRule
-returns-2 c = let h = pair-told _ _ (c .before .before .before .pair-of .ensures) (c .before .enum-told2 .given .1) in rw (h .0, h .1) (c .undefined-memory-reference2 .ensures)
+returns-2 c = let h = pair-told _ _ _ (c .before .before .before .before .pair-of .ensures) (c .before .before .left .given .1) in rw (h .0, h .1, h .2, h .3, eq-eqb _ _ (c .if1 .taken))
 
 returns-3 : tie.Need-returns-3
 unfolding exchangeRule
-returns-3 c = let h = pair-told _ _ (c .before .before .before .before .pair-of .ensures) (c .before .before .left .given .1) in rw (h .0, h .1, h .2, h .3, eq-eqb _ _ (c .if1 .taken))
-
-returns-4 : tie.Need-returns-4
-unfolding exchangeRule
-returns-4 c = let h = pair-told _ _ (c .before .before .before .before .before .pair-of .ensures) (c .before .before .before .left .given .1) in rw (h .0, h .1, h .2, h .3, ne-eqb _ _ (c .before .if1 .left)) (c .data-type-mismatch .ensures)
+returns-3 c = let h = pair-told _ _ _ (c .before .before .before .before .before .pair-of .ensures) (c .before .before .before .left .given .1) in rw (h .0, h .1, h .2, h .3, ne-eqb _ _ (c .before .if1 .left)) (c .data-type-mismatch .ensures)
 
 pub type-check-exchange-spec : {M : Type 1} → statement M
 type-check-exchange-spec =
     tie.close
     (tie.spec
     pair-of-requires
-    enum-told
-    undefined-memory-reference-requires
-    enum-told-2
-    undefined-memory-reference-requires-2
+    enum-known-error
     enum-known-left
     data-type-mismatch-requires
     returns
     returns-2
-    returns-3
-    returns-4)
+    returns-3)
