@@ -130,7 +130,7 @@ module _ {regions cells : List ℕ} (typed : Typed regions cells) (x : Instructi
       )
   ready (suc (suc (suc (suc (suc (suc (suc (suc m)))))))) q h =
       let (a, b) = past (suc (suc (suc (suc (suc (suc (suc (suc m)))))))) (omega arith) in (
-        record { first = λ t. absurd (false≢true (sym a ∙ t)); second = λ t. absurd (false≢true (sym b ∙ t)); source = no-source (x .«source_form») (sym (form-past _ (x .«source_form») (omega arith)) ∙ rw q at (k .form)) },
+        record { first = λ t. absurd (false≢true (sym a ∙ t)); second = λ t. absurd (false≢true (sym b ∙ t)); source = no-source (x .«source_form») (sym (form-past (x .family) (x .«source_form») (omega arith)) ∙ k .form) },
         λ n a p. rw q (fine none),
       )
 
