@@ -1,2 +1,3 @@
 -- What the crates above cite of accepted tables.
 pub mod Loaded
+pub mod SourceLaws

@@ -2,9 +2,13 @@
 use Prim.Native.Nat.{ℕ}
 use mathlib.Core.Bool.{Bool, true, false, _&&_, _||_}
 use mathlib.Core.List.{List, [], _∷_}
-use lib.ListN.{getD}
 use lib.Dec.{eqb, leb}
+use Rattle.words.specs.Kind.{real}
 use Rattle.tables.specs.First.{every}
+use Rattle.tables.specs.Cases.{caseOf}
+use Rattle.tables.specs.NodeTag as tag
+use Rattle.tables.specs.ArgumentForm as form
+use Rattle.tables.specs.ParameterShape as shape
 use Rattle.tables.specs.Rows.{regionRows, externRows, parameterRows, nodeRows, argumentRows, regionAt, externAt, parameterAt, nodeAt, argumentAt}
 use Rattle.tables.specs.Tree.{inside}
 use Rattle.tables.specs.declared.rows.Region.{Region}
@@ -14,33 +18,47 @@ use Rattle.tables.specs.declared.rows.Node.{Node}
 use Rattle.tables.specs.declared.rows.Argument.{Argument}
 
 -- "Kinds: 0 BIT, 1 INTEGER, 2 OCTET, 3 REAL"; "length (any, 0 too)"
+abbrev pub isKind : ℕ → Bool
+isKind kind = leb kind real
+
 unfoldable pub regionAllowed : Region → Bool
-regionAllowed x = leb (x .kind) 3
+regionAllowed x = isKind (x .kind)
 
 -- "return kind or 4 for none"; its parameters are rows of the parameter table
 unfoldable pub externAllowed : ℕ → Extern → Bool
-externAllowed parameters x = leb (x .«return_kind») 4 && inside (x .«first_parameter») (x .«parameter_count») parameters
+externAllowed parameters x = leb (x .«return_kind») shape.noReturn && inside (x .«first_parameter») (x .«parameter_count») parameters
 
 -- "mutable 0/1, shape (0 scalar, 1 fixed vector, 2 variable vector), kind, length (fixed only)"
 unfoldable pub parameterAllowed : Parameter → Bool
 parameterAllowed x =
-    leb (x .mutable) 1 && (leb (x .shape) 2 && (leb (x .kind) 3 && (eqb (x .shape) 1 || eqb (x .length) 0)))
+    leb (x .mutable) 1
+    && (leb (x .shape) shape.variableVector
+    && (isKind (x .kind) && (eqb (x .shape) shape.fixedVector || eqb (x .length) 0)))
 
--- by the tag: "0 address (name, index), 1 function call, 2 infix, 3 number (real bits, imaginary bits), 4 pi, 5 prefix, 6 variable (name)"
-abbrev pub nodeWords : Node → List Bool
-nodeWords x =
+-- "0 address (name, index), 1 function call, 2 infix, 3 number (real bits, imaginary bits), 4 pi, 5 prefix, 6 variable (name)"
+abbrev pub wordsByTag : Node → List (ℕ × Bool)
+wordsByTag x =
     let unused = eqb (x .first) 0 && eqb (x .second) 0 in
-    true ∷ unused ∷ unused ∷ true ∷ unused ∷ unused ∷ eqb (x .second) 0 ∷ []
+    (tag.address, true)
+    ∷ (tag.functionCall, unused)
+    ∷ (tag.infixExpression, unused)
+    ∷ (tag.number, true)
+    ∷ (tag.pi, unused)
+    ∷ (tag.prefixExpression, unused)
+    ∷ (tag.variable, eqb (x .second) 0)
+    ∷ []
 
 unfoldable pub nodeAllowed : Node → Bool
-nodeAllowed x = getD (nodeWords x) (x .tag) false
+unfolding caseOf
+nodeAllowed x = caseOf (x .tag) (wordsByTag x) false
 
--- by the form: "0 identifier (name), 1 reference (name, index), 2 immediate" (two binary64 parts)
-abbrev pub argumentWords : Argument → List Bool
-argumentWords x = eqb (x .second) 0 ∷ true ∷ true ∷ []
+-- "0 identifier (name), 1 reference (name, index), 2 immediate" (two binary64 parts)
+abbrev pub wordsByForm : Argument → List (ℕ × Bool)
+wordsByForm x = (form.identifier, eqb (x .second) 0) ∷ (form.reference, true) ∷ (form.immediate, true) ∷ []
 
 unfoldable pub argumentAllowed : Argument → Bool
-argumentAllowed x = getD (argumentWords x) (x .form) false
+unfolding caseOf
+argumentAllowed x = caseOf (x .form) (wordsByForm x) false
 
 unfoldable pub regionsAllowed : List ℕ → Bool
 regionsAllowed xs = every (λ k. regionAllowed (regionAt xs k)) (regionRows xs)

@@ -1,64 +1,104 @@
 -- 2, of the instructions: the words that each family allows. "Unused words are 0."
-use Prim.Native.Nat.{ℕ}
-use mathlib.Core.Bool.{Bool, true, false, cond, _&&_, _||_}
+use Prim.Native.Nat.{ℕ, _+_}
+use mathlib.Core.Bool.{Bool, true, false, _&&_, _||_}
 use mathlib.Core.List.{List, [], _∷_}
-use lib.ListN.{getD}
 use lib.Dec.{eqb, ltb}
 use Rattle.tables.specs.First.{every}
+use Rattle.tables.specs.Cases.{caseOf}
+use Rattle.tables.specs.Family as family
+use Rattle.tables.specs.Operator as operator
+use Rattle.tables.specs.Source as source
 use Rattle.tables.specs.Rows.{instructionRows, instructionAt}
 use Rattle.tables.specs.Tree.{inside, oneTree}
 use Rattle.tables.specs.declared.rows.Instruction.{Instruction}
 
--- "Families, operators numbered from 0 in the Rust's order": how many each family has; 1 where the word is unused, 0 for no family.
--- 0 arithmetic (ADD, SUB, DIV, MUL), 1 comparison (EQ, GE, GT, LE, LT), 2 binary logic (AND, IOR, XOR, SHL, SHR, ASHR), 3 unary (NEG, NOT),
--- 4 move, 5 exchange, 6 load, 7 store, 8 frame (set frequency, set phase, set scale, shift frequency, shift phase), 9 call, 10 (NOP, any other)
-abbrev pub operators : List ℕ
-operators = 4 ∷ 5 ∷ 6 ∷ 2 ∷ 1 ∷ 1 ∷ 1 ∷ 1 ∷ 5 ∷ 1 ∷ 2 ∷ []
+-- operators are numbered from 0: how many there are up to the last
+abbrev pub upTo : ℕ → ℕ
+upTo last = last + 1
 
+-- where the word is unused, only 0
+abbrev pub unused : ℕ
+unused = 0
+
+-- "Families, operators numbered from 0 in the Rust's order": how many each family has, by its last
+abbrev pub operatorsByFamily : List (ℕ × ℕ)
+operatorsByFamily =
+    (family.arithmetic, upTo operator.multiply)
+    ∷ (family.comparison, upTo operator.lessThan)
+    ∷ (family.binaryLogic, upTo operator.ashr)
+    ∷ (family.unary, upTo operator.not)
+    ∷ (family.move, upTo unused)
+    ∷ (family.exchange, upTo unused)
+    ∷ (family.load, upTo unused)
+    ∷ (family.store, upTo unused)
+    ∷ (family.frame, upTo operator.shiftPhase)
+    ∷ (family.call, upTo unused)
+    ∷ (family.other, upTo operator.anyOther)
+    ∷ []
+
+-- none past the last family, so that such a number is refused
 unfoldable pub operatorsOf : ℕ → ℕ
-operatorsOf family = getD operators family 0
+unfolding caseOf
+operatorsOf family = caseOf family operatorsByFamily 0
 
 -- "source form (0 integer literal, 1 real literal, 2 reference, 3 none: always and only in families 3, 5, 8, 9, 10)";
 -- "2 binary logic (no real literal)"; "6 load (.. source = offset reference)"
-abbrev pub forms : ℕ → List Bool
-forms form =
-    let any = ltb form 3 in
-    let none = eqb form 3 in
-    any ∷ any ∷ (eqb form 0 || eqb form 2) ∷ none ∷ any ∷ none ∷ eqb form 2 ∷ any ∷ []
+abbrev pub formsByFamily : ℕ → List (ℕ × Bool)
+formsByFamily form =
+    let any = ltb form source.none in
+    let none = eqb form source.none in
+    (family.arithmetic, any)
+    ∷ (family.comparison, any)
+    ∷ (family.binaryLogic, eqb form source.integerLiteral || eqb form source.reference)
+    ∷ (family.unary, none)
+    ∷ (family.move, any)
+    ∷ (family.exchange, none)
+    ∷ (family.load, eqb form source.reference)
+    ∷ (family.store, any)
+    ∷ (family.frame, none)
+    ∷ (family.call, none)
+    ∷ (family.other, none)
+    ∷ []
 
 unfoldable pub formAllowed : ℕ → ℕ → Bool
-formAllowed family form = getD (forms form) family (eqb form 3)
+unfolding caseOf
+formAllowed family form = caseOf family (formsByFamily form) (eqb form source.none)
 
 -- "source's two words (literal bits and 0, or name and index)"
-abbrev pub sourceWords : Instruction → List Bool
-sourceWords x =
+abbrev pub sourceByForm : Instruction → List (ℕ × Bool)
+sourceByForm x =
     let literal = eqb (x .«source_second») 0 in
-    let none = eqb (x .«source_first») 0 && eqb (x .«source_second») 0 in
-    literal ∷ literal ∷ true ∷ none ∷ []
+    (source.integerLiteral, literal)
+    ∷ (source.realLiteral, literal)
+    ∷ (source.reference, true)
+    ∷ (source.none, eqb (x .«source_first») 0 && eqb (x .«source_second») 0)
+    ∷ []
 
 unfoldable pub sourceAllowed : Instruction → Bool
-sourceAllowed x = getD (sourceWords x) (x .«source_form») false
+unfolding caseOf
+sourceAllowed x = caseOf (x .«source_form») (sourceByForm x) false
 
--- by family, the first and the second name and index. "A region operand has index 0" (load's second, store's first).
+-- the first and the second name and index. "A region operand has index 0" (load's second, store's first).
 -- "8 frame: .. words 3 and 4 (counting from 1) are first node and node count, exactly one tree"; "9 call: words 3 to 5 are extern name, first argument, count"
-abbrev pub operandWords : List ℕ → ℕ → Instruction → List Bool
-operandWords nodes arguments x =
+abbrev pub operandsByFamily : List ℕ → ℕ → Instruction → List (ℕ × Bool)
+operandsByFamily nodes arguments x =
     let second-unused = eqb (x .«second_name») 0 && eqb (x .«second_index») 0 in
-    second-unused
-    ∷ true
-    ∷ second-unused
-    ∷ second-unused
-    ∷ second-unused
-    ∷ true
-    ∷ eqb (x .«second_index») 0
-    ∷ eqb (x .«first_index») 0
-    ∷ (second-unused && oneTree nodes (x .«first_name») (x .«first_index»))
-    ∷ (eqb (x .«second_index») 0 && inside (x .«first_index») (x .«second_name») arguments)
-    ∷ (eqb (x .«first_name») 0 && (eqb (x .«first_index») 0 && second-unused))
+    (family.arithmetic, second-unused)
+    ∷ (family.comparison, true)
+    ∷ (family.binaryLogic, second-unused)
+    ∷ (family.unary, second-unused)
+    ∷ (family.move, second-unused)
+    ∷ (family.exchange, true)
+    ∷ (family.load, eqb (x .«second_index») 0)
+    ∷ (family.store, eqb (x .«first_index») 0)
+    ∷ (family.frame, second-unused && oneTree nodes (x .«first_name») (x .«first_index»))
+    ∷ (family.call, eqb (x .«second_index») 0 && inside (x .«first_index») (x .«second_name») arguments)
+    ∷ (family.other, eqb (x .«first_name») 0 && (eqb (x .«first_index») 0 && second-unused))
     ∷ []
 
 unfoldable pub operandsAllowed : List ℕ → ℕ → Instruction → Bool
-operandsAllowed nodes arguments x = getD (operandWords nodes arguments x) (x .family) false
+unfolding caseOf
+operandsAllowed nodes arguments x = caseOf (x .family) (operandsByFamily nodes arguments x) false
 
 unfoldable pub instructionAllowed : List ℕ → ℕ → Instruction → Bool
 instructionAllowed nodes arguments x =

@@ -6,7 +6,7 @@ use lib.Dec.{eqb, ltb}
 use Rattle.tables.specs.Refusal.{tableShape, wordNotAllowed, nameTwice}
 use Rattle.tables.specs.Outcome.{Outcome, _>>_, need}
 use Rattle.tables.specs.Tables.{Tables}
-use Rattle.tables.specs.Rows.{regionWidth, externWidth, nodeWidth, parameterRows, argumentRows, instructionRows, instructionAt}
+use Rattle.tables.specs.Rows.{regionWidth, externWidth, nodeWidth, nodeLimit, parameterRows, argumentRows, instructionRows, instructionAt}
 use Rattle.tables.specs.Lookup.{distinct}
 use Rattle.tables.specs.Tree.{oneTree}
 use Rattle.loader.specs.Shape.{wholeRows, wholeTables}
@@ -49,6 +49,6 @@ loadRowLook t row family = do
 -- the walk, which takes the nodes alone and a range
 unfoldable pub loadNodesLook : List ℕ → ℕ → ℕ → Outcome (Unit {0})
 loadNodesLook nodes first count = do
-  need (wholeRows nodeWidth 2048 nodes) tableShape
+  need (wholeRows nodeWidth nodeLimit nodes) tableShape
   need (nodesAllowed nodes) wordNotAllowed
   need (oneTree nodes first count) wordNotAllowed

@@ -1,6 +1,11 @@
 // Refusal 2, of every table but the instructions: the words that each row allows.
 ghost use mathlib.Core.Path.{_≡_};
 ghost use Rattle.loader.specs.Allowed.{regionAllowed, externAllowed, parameterAllowed, nodeAllowed, argumentAllowed, regionsAllowed, externsAllowed, parametersAllowed, nodesAllowed, argumentsAllowed};
+use tables::argument_form;
+use tables::node_tag;
+use tables::parameter_shape::FIXED_VECTOR;
+use tables::parameter_shape::NO_RETURN;
+use tables::parameter_shape::VARIABLE_VECTOR;
 use tables::rows::ARGUMENT_WIDTH;
 use tables::rows::Argument;
 use tables::rows::EXTERN_WIDTH;
@@ -11,25 +16,28 @@ use tables::rows::PARAMETER_WIDTH;
 use tables::rows::Parameter;
 use tables::rows::REGION_WIDTH;
 use tables::rows::Region;
+use words::kind::REAL;
 
 fn region_allowed(x: Region) -> bool
     ensures { λ r. ⌜ r ≡ regionAllowed x ⌝ }
 {
-    x.kind <= 3
+    x.kind <= REAL
 }
 
 // `parameters` is the number of parameter rows.
 fn extern_allowed(x: Extern, parameters: usize) -> bool
     ensures { λ r. ⌜ r ≡ externAllowed parameters x ⌝ }
 {
-    (x.return_kind <= 4)
+    (x.return_kind <= NO_RETURN)
         & tables::tree::range_inside(x.first_parameter, x.parameter_count, parameters)
 }
 
 fn parameter_allowed(x: Parameter) -> bool
     ensures { λ r. ⌜ r ≡ parameterAllowed x ⌝ }
 {
-    (x.mutable <= 1) & ((x.shape <= 2) & ((x.kind <= 3) & ((x.shape == 1) | (x.length == 0))))
+    (x.mutable <= 1)
+        & ((x.shape <= VARIABLE_VECTOR)
+            & ((x.kind <= REAL) & ((x.shape == FIXED_VECTOR) | (x.length == 0))))
 }
 
 fn node_allowed(x: Node) -> bool
@@ -38,13 +46,13 @@ fn node_allowed(x: Node) -> bool
     let tag = x.tag;
     let unused = (x.first == 0) & (x.second == 0);
     match tag {
-        0 => true,
-        1 => unused,
-        2 => unused,
-        3 => true,
-        4 => unused,
-        5 => unused,
-        6 => x.second == 0,
+        node_tag::ADDRESS => true,
+        node_tag::FUNCTION_CALL => unused,
+        node_tag::INFIX => unused,
+        node_tag::NUMBER => true,
+        node_tag::PI => unused,
+        node_tag::PREFIX => unused,
+        node_tag::VARIABLE => x.second == 0,
         _ => false,
     }
 }
@@ -54,9 +62,9 @@ fn argument_allowed(x: Argument) -> bool
 {
     let form = x.form;
     match form {
-        0 => x.second == 0,
-        1 => true,
-        2 => true,
+        argument_form::IDENTIFIER => x.second == 0,
+        argument_form::REFERENCE => true,
+        argument_form::IMMEDIATE => true,
         _ => false,
     }
 }

@@ -1,100 +1,100 @@
 // Refusal 2, of the instructions: the words that each family allows.
 ghost use mathlib.Core.Path.{_≡_};
+ghost use mathlib.Core.Bool.{_&&_, _||_};
 ghost use Prim.Native.Nat.{_<_, _≤_};
+ghost use lib.Dec.{eqb, ltb};
 ghost use Rattle.tables.specs.Rows.{nodeRows};
 ghost use Rattle.tables.specs.Ends.{EndsFrom};
-ghost use Rattle.loader.specs.Instruction.{operatorsOf, operandsAllowed, instructionAllowed, instructionsAllowed, formAllowed, sourceAllowed};
+ghost use Rattle.tables.specs.Source as source;
+ghost use Rattle.loader.specs.Instruction.{upTo, sourceAllowed, instructionAllowed, instructionsAllowed};
+use tables::ends::ends_with;
 use tables::ends::tree_ends;
+use tables::family;
+use tables::operator;
 use tables::rows::INSTRUCTION_WIDTH;
 use tables::rows::Instruction;
 use tables::rows::NODE_LIMIT;
 use tables::rows::NODE_WIDTH;
+use tables::source;
+use tables::tree::range_inside;
 
 // More than that many nodes take the room for all.
 const FEW_NODES: usize = 64;
 
-// How many operators a family has; 1 where the word is unused.
-fn operator_count(family: u64) -> u64
-    ensures { λ r. ⌜ r ≡ operatorsOf family ⌝ }
+// A word that is not used.
+const UNUSED: u64 = 0;
+
+// Whether the operator is one of those up to the family's last.
+fn up_to(last: u64, operator: u64) -> bool
+    ensures { λ r. ⌜ r ≡ ltb operator (upTo last) ⌝ }
 {
-    match family {
-        0 => 4,
-        1 => 5,
-        2 => 6,
-        3 => 2,
-        4 => 1,
-        5 => 1,
-        6 => 1,
-        7 => 1,
-        8 => 5,
-        9 => 1,
-        10 => 2,
-        _ => 0,
-    }
+    operator <= last
 }
 
-fn form_allowed(family: u64, form: u64) -> bool
-    ensures { λ r. ⌜ r ≡ formAllowed family form ⌝ }
+// A literal, whose second word is 0, or a reference; beside the operands' words.
+fn any_source(x: Instruction, operands: bool) -> bool
+    ensures { λ r. ⌜ r ≡ (ltb (x .«source_form») source.none && (sourceAllowed x && operands)) ⌝ }
 {
-    match family {
-        0 => form < 3,
-        1 => form < 3,
-        2 => (form == 0) | (form == 2),
-        3 => form == 3,
-        4 => form < 3,
-        5 => form == 3,
-        6 => form == 2,
-        7 => form < 3,
-        _ => form == 3,
-    }
+    (x.source_form < source::NONE)
+        & (((x.source_form == source::REFERENCE) | (x.source_second == 0)) & operands)
 }
 
-fn source_allowed(x: Instruction) -> bool
-    ensures { λ r. ⌜ r ≡ sourceAllowed x ⌝ }
+// No real literal.
+fn integral_source(x: Instruction, operands: bool) -> bool
+    ensures { λ r. ⌜ r ≡ ((eqb (x .«source_form») source.integerLiteral || eqb (x .«source_form») source.reference) && (sourceAllowed x && operands)) ⌝ }
 {
-    let form = x.source_form;
-    match form {
-        0 => x.source_second == 0,
-        1 => x.source_second == 0,
-        2 => true,
-        3 => (x.source_first == 0) & (x.source_second == 0),
-        _ => false,
-    }
+    ((x.source_form == source::REFERENCE)
+        | ((x.source_form == source::INTEGER_LITERAL) & (x.source_second == 0)))
+        & operands
 }
 
-// `ends` has where each node's tree ends; `arguments` is the number of argument rows.
-fn operands_allowed(nodes: &[u64], ends: &[u16], arguments: usize, x: Instruction) -> bool
-    requires { ⌜ EndsFrom (now nodes) (now ends) 0 ⌝ }
-    ensures { λ r. ⌜ r ≡ operandsAllowed (now (nodes .entry)) arguments x ⌝ }
+// An offset.
+fn reference_source(x: Instruction, operands: bool) -> bool
+    ensures { λ r. ⌜ r ≡ (eqb (x .«source_form») source.reference && (sourceAllowed x && operands)) ⌝ }
 {
-    let family = x.family;
-    let second_unused = (x.second_name == 0) & (x.second_index == 0);
-    match family {
-        0 => second_unused,
-        1 => true,
-        2 => second_unused,
-        3 => second_unused,
-        4 => second_unused,
-        5 => true,
-        6 => x.second_index == 0,
-        7 => x.first_index == 0,
-        8 => second_unused & tables::ends::ends_with(nodes, ends, x.first_name, x.first_index),
-        9 => {
-            (x.second_index == 0)
-                & tables::tree::range_inside(x.first_index, x.second_name, arguments)
-        }
-        10 => (x.first_name == 0) & ((x.first_index == 0) & second_unused),
-        _ => false,
-    }
+    (x.source_form == source::REFERENCE) & operands
 }
 
+fn no_source(x: Instruction, operands: bool) -> bool
+    ensures { λ r. ⌜ r ≡ (eqb (x .«source_form») source.none && (sourceAllowed x && operands)) ⌝ }
+{
+    (x.source_form == source::NONE) & (((x.source_first == 0) & (x.source_second == 0)) & operands)
+}
+
+// The words of a row by its family: its operators, its source, its operands. `ends` has where each node's tree ends; `arguments` is the number of argument rows.
 fn instruction_allowed(nodes: &[u64], ends: &[u16], arguments: usize, x: Instruction) -> bool
     requires { ⌜ EndsFrom (now nodes) (now ends) 0 ⌝ }
     ensures { λ r. ⌜ r ≡ instructionAllowed (now (nodes .entry)) arguments x ⌝ }
 {
-    (x.operator < operator_count(x.family))
-        & (form_allowed(x.family, x.source_form)
-            & (source_allowed(x) & operands_allowed(nodes, ends, arguments, x)))
+    let family = x.family;
+    let second_unused = (x.second_name == 0) & (x.second_index == 0);
+    match family {
+        family::ARITHMETIC => up_to(operator::MULTIPLY, x.operator) & any_source(x, second_unused),
+        family::COMPARISON => up_to(operator::LESS_THAN, x.operator) & any_source(x, true),
+        family::BINARY_LOGIC => up_to(operator::ASHR, x.operator)
+            & integral_source(x, second_unused),
+        family::UNARY => up_to(operator::NOT, x.operator) & no_source(x, second_unused),
+        family::MOVE => up_to(UNUSED, x.operator) & any_source(x, second_unused),
+        family::EXCHANGE => up_to(UNUSED, x.operator) & no_source(x, true),
+        family::LOAD => up_to(UNUSED, x.operator) & reference_source(x, x.second_index == 0),
+        family::STORE => up_to(UNUSED, x.operator) & any_source(x, x.first_index == 0),
+        family::FRAME => up_to(operator::SHIFT_PHASE, x.operator)
+            & no_source(
+                x,
+                second_unused & ends_with(nodes, ends, x.first_name, x.first_index),
+            ),
+        family::CALL => up_to(UNUSED, x.operator)
+            & no_source(
+                x,
+                (x.second_index == 0) & range_inside(x.first_index, x.second_name, arguments),
+            ),
+        family::OTHER => up_to(operator::ANY_OTHER, x.operator)
+            & no_source(
+                x,
+                (x.first_name == 0) & ((x.first_index == 0) & second_unused),
+            ),
+        _ => false,
+    }
 }
 
 fn rows_allowed(instructions: &[u64], nodes: &[u64], ends: &[u16], arguments: usize) -> bool

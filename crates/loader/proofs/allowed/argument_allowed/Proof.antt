@@ -1,7 +1,7 @@
-use Rattle.loader.specs.Allowed.{argumentWords}
+use Rattle.loader.specs.Allowed.{wordsByForm}
 use mathlib.Core.Bool.{false}
 use Rattle.loader.specs.Allowed.{argumentAllowed}
-use Rattle.tables.proofs.Cases.{rest-arm}
+use Rattle.tables.proofs.Cases.{other-arm}
 use borrow.Author.Needs.{needs}
 use Rattle.loader.proofs.allowed.argument_allowed.Statement.{statement}
 use Rattle.loader.proofs.allowed.argument_allowed.Tie as tie
@@ -22,7 +22,7 @@ returns-3 c = rw (c .match .keys3)
 
 returns-4 : tie.Need-returns-4
 unfolding argumentAllowed
-returns-4 c = rest-arm (argumentWords (c .before .args .x)) false (c .before .args .x .form) (c .match .rest)
+returns-4 c = other-arm (wordsByForm (c .before .args .x)) false (c .before .args .x .form) (c .match .rest)
 
 pub argument-allowed-spec : {M : Type 1} → statement M
 argument-allowed-spec = tie.close (tie.spec returns returns-2 returns-3 returns-4)

@@ -1,7 +1,7 @@
-use Rattle.loader.specs.Allowed.{nodeWords}
+use Rattle.loader.specs.Allowed.{wordsByTag}
 use mathlib.Core.Bool.{false}
 use Rattle.loader.specs.Allowed.{nodeAllowed}
-use Rattle.tables.proofs.Cases.{rest-arm}
+use Rattle.tables.proofs.Cases.{other-arm}
 use borrow.Author.Needs.{needs}
 use Rattle.loader.proofs.allowed.node_allowed.Statement.{statement}
 use Rattle.loader.proofs.allowed.node_allowed.Tie as tie
@@ -38,7 +38,7 @@ returns-7 c = rw (c .before .match .keys7)
 
 returns-8 : tie.Need-returns-8
 unfolding nodeAllowed
-returns-8 c = rest-arm (nodeWords (c .before .before .before .args .x)) false (c .before .before .before .args .x .tag) (c .match .rest)
+returns-8 c = other-arm (wordsByTag (c .before .before .before .args .x)) false (c .before .before .before .args .x .tag) (c .match .rest)
 
 pub node-allowed-spec : {M : Type 1} → statement M
 node-allowed-spec =
