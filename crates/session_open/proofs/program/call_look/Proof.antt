@@ -3,7 +3,8 @@ use borrow.Author.Tests.{eq-eqb, ne-eqb}
 use Rattle.tables.specs.Outcome.{_>>_, seen}
 use Rattle.tables.specs.Family as family
 use Rattle.tables.specs.Rows.{instructionAt}
-use Rattle.extern_call.specs.Call.{callAnswer}
+use Rattle.extern_call.specs.Call.{resolvesCall, callAnswer}
+use Rattle.extern_call.specs.declared.call.CallAnswer.{CallAnswer}
 use Rattle.session_open.specs.Open.{callLook}
 use borrow.Author.Needs.{needs}
 use Rattle.session_open.proofs.program.call_look.Statement.{statement}
@@ -19,6 +20,10 @@ entry c = c .before .before .before .before .before .before
 
 is-call : (c : tie.Else1) → instructionAt (entry (row c) .args .instructions .now) (entry (row c) .args .row) .family ≡ family.call
 is-call c = rw (row c .instruction-at .ensures) at (c .if1 .left)
+
+answered : (c : tie.After-resolves) {r : CallAnswer} → c .resolves .result ≡ r
+    → resolvesCall (entry (row (c .before)) .args .regions .now) (entry (row (c .before)) .args .externs .now) (entry (row (c .before)) .args .parameters .now) (entry (row (c .before)) .args .arguments .now) (instructionAt (entry (row (c .before)) .args .instructions .now) (entry (row (c .before)) .args .row)) ≡ callAnswer r
+answered c e = seen callAnswer (rw (row (c .before) .instruction-at .ensures) at (c .resolves .ensures)) e
 
 -- ---- the needs
 
@@ -42,15 +47,13 @@ returns-2 : tie.Need-returns-2
 unfolding callLook _>>_
 returns-2 c =
     let after = c .before .before in
-    let at = after .before in
-    rw (eq-eqb _ _ (is-call at), seen callAnswer (rw (row at .instruction-at .ensures) at (after .resolves .ensures)) (c .enum-told .given .1))
+    rw (eq-eqb _ _ (is-call (after .before)), answered after (c .enum-told .given .1))
 
 returns-3 : tie.Need-returns-3
 unfolding callLook _>>_
 returns-3 c =
     let after = c .before .before .before in
-    let at = after .before in
-    rw (eq-eqb _ _ (is-call at), seen callAnswer (rw (row at .instruction-at .ensures) at (after .resolves .ensures)) (c .before .answer .given .1))
+    rw (eq-eqb _ _ (is-call (after .before)), answered after (c .before .answer .given .1))
 
 pub call-look-spec : {M : Type 1} → statement M
 call-look-spec =
