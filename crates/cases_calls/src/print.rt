@@ -23,34 +23,27 @@ fn number(n: u64) {
     io::print_decimal(STDOUT_FILENO, n);
 }
 
-// The call's number, a bar, and the words of its answer.
-fn line(refusal: u64, words: &[u64]) {
+// The call's number and a bar, after which stands what it answers.
+fn head(refusal: u64) {
     number(refusal);
     text(b" |");
-    let mut i = 0;
-    while i < words.len() {
-        number(words[i]);
-        i += 1;
-    }
 }
 
 fn place(refusal: u64, position: Position) -> Position {
-    line(refusal, &[position.done as u64, position.used as u64]);
+    head(refusal);
+    number(position.done as u64);
+    number(position.used as u64);
     position
 }
 
 fn type_error(e: TypeError) {
-    line(
-        TYPE_ERROR,
-        &[
-            e.kind,
-            e.row,
-            e.spot,
-            e.src_spot,
-            e.first_code,
-            e.second_code,
-        ],
-    );
+    head(TYPE_ERROR);
+    number(e.kind);
+    number(e.row);
+    number(e.spot);
+    number(e.src_spot);
+    number(e.first_code);
+    number(e.second_code);
 }
 
 // Writes what open answered, and gives the position to go on from, as all of these do.
@@ -58,7 +51,7 @@ pub fn opened(answer: OpenAnswer, position: Position) -> Position {
     text(b"open");
     match answer {
         OpenAnswer::Opened(first) => return place(0, first),
-        OpenAnswer::Refused(refusal) => line(refusal, &[]),
+        OpenAnswer::Refused(refusal) => head(refusal),
         OpenAnswer::Error(error) => type_error(error),
     }
     position
@@ -76,20 +69,25 @@ pub fn stepped(name: &[u8], answer: StepAnswer) -> Position {
 pub fn checked(answer: CheckAnswer, position: Position) -> Position {
     text(b"check");
     match answer {
-        CheckAnswer::Accepted => line(0, &[]),
-        CheckAnswer::Refused(refusal) => line(refusal, &[]),
+        CheckAnswer::Accepted => head(0),
+        CheckAnswer::Refused(refusal) => head(refusal),
         CheckAnswer::Error(error) => type_error(error),
     }
     position
 }
 
 // How many rows are written.
+fn rows(refusal: u64, count: usize) {
+    head(refusal);
+    number(count as u64);
+}
+
 pub fn resolved(answer: ResolveAnswer, position: Position) -> Position {
     text(b"resolve");
     match answer {
-        ResolveAnswer::Refused(refusal) => line(refusal, &[]),
-        ResolveAnswer::Errors(count) => line(ARGUMENT_ERRORS, &[count as u64]),
-        ResolveAnswer::Resolved(count) => line(0, &[count as u64]),
+        ResolveAnswer::Refused(refusal) => head(refusal),
+        ResolveAnswer::Errors(count) => rows(ARGUMENT_ERRORS, count),
+        ResolveAnswer::Resolved(count) => rows(0, count),
     }
     position
 }
@@ -98,20 +96,28 @@ pub fn resolved(answer: ResolveAnswer, position: Position) -> Position {
 pub fn accessed(answer: AccessAnswer, position: Position) -> Position {
     text(b"access");
     match answer {
-        AccessAnswer::Refused(refusal) => line(refusal, &[]),
-        AccessAnswer::Sets(read, written) => line(0, &[read as u64, written as u64]),
+        AccessAnswer::Refused(refusal) => head(refusal),
+        AccessAnswer::Sets(read, written) => {
+            head(0);
+            number(read as u64);
+            number(written as u64);
+        }
     }
     position
 }
 
 // A reference's name, index and the nodes passed then, or at the end those alone.
 fn went(stepped: Stepped) {
+    head(0);
     let found = stepped.found;
     match found {
-        Next::Reference(r) => line(0, &[r.name, r.index, stepped.place as u64]),
-        Next::End => line(0, &[stepped.place as u64]),
+        Next::Reference(r) => {
+            number(r.name);
+            number(r.index);
+        }
+        Next::End => {}
     }
-    ;
+    number(stepped.place as u64);
 }
 
 // The place that a walk went to is the position's first number.
@@ -119,7 +125,7 @@ pub fn walked(answer: WalkAnswer, position: Position) -> Position {
     text(b"walk");
     match answer {
         WalkAnswer::Refused(refusal) => {
-            line(refusal, &[]);
+            head(refusal);
             position
         }
         WalkAnswer::Went(stepped) => {

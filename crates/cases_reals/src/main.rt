@@ -51,7 +51,7 @@ fn each_line(text: &[u8]) {
 }
 
 fn main() {
-    let mut text = [0; 262144];
+    let mut text = io::large_buffer();
     let count = io::read_full(STDIN_FILENO, &mut text);
     each_line(&text[0..count]);
 }
