@@ -10,7 +10,7 @@ use crate::allowed::externs_allowed;
 use crate::allowed::nodes_allowed;
 use crate::allowed::parameters_allowed;
 use crate::allowed::regions_allowed;
-use crate::instruction::instructions_allowed;
+use crate::instruction::nodes_and_rows_allowed;
 use crate::shape::whole_rows;
 use crate::shape::whole_tables;
 use tables::look::Look;
@@ -42,13 +42,12 @@ pub fn allowed_tables(
     regions_allowed(regions)
         & (externs_allowed(externs, parameters.len() / PARAMETER_WIDTH)
             & (parameters_allowed(parameters)
-                & (nodes_allowed(nodes)
-                    & (arguments_allowed(arguments)
-                        & instructions_allowed(
-                            instructions,
-                            nodes,
-                            arguments.len() / ARGUMENT_WIDTH,
-                        )))))
+                & (arguments_allowed(arguments)
+                    & nodes_and_rows_allowed(
+                        instructions,
+                        nodes,
+                        arguments.len() / ARGUMENT_WIDTH,
+                    ))))
 }
 
 // No two regions and no two externs of one name.
