@@ -1,7 +1,7 @@
 // Refusals 1, 2 and 3 over all tables, in that order.
 ghost use mathlib.Core.Path.{_≡_};
 ghost use Prim.Native.Nat.{_≤_};
-ghost use Rattle.tables.specs.Rows.{nodeRows};
+ghost use Rattle.tables.specs.Rows.{nodeLimit, nodeRows};
 ghost use Rattle.tables.specs.Tables.{tablesOf};
 ghost use Rattle.tables.specs.Look.{lookOutcome};
 ghost use Rattle.loader.specs.Load.{allowedTables, distinctNames, chosenRow, loadLook, loadRowLook, loadNodesLook};
@@ -36,7 +36,7 @@ pub fn allowed_tables(
     arguments: &[u64],
     instructions: &[u64],
 ) -> bool
-    requires { ⌜ nodeRows (now nodes) ≤ 2048 ⌝ }
+    requires { ⌜ nodeRows (now nodes) ≤ nodeLimit ⌝ }
     ensures { λ r. ⌜ r ≡ allowedTables (tablesOf (now (regions .entry)) (now (externs .entry)) (now (parameters .entry)) (now (nodes .entry)) (now (arguments .entry)) (now (instructions .entry))) ⌝ }
 {
     regions_allowed(regions)
