@@ -1,3 +1,4 @@
 -- What the crates above cite of accepted tables.
 pub mod Loaded
 pub mod SourceLaws
+pub mod NodesLaws

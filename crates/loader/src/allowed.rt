@@ -40,18 +40,17 @@ fn parameter_allowed(x: Parameter) -> bool
             & ((x.kind <= REAL) & ((x.shape == FIXED_VECTOR) | (x.length == 0))))
 }
 
-fn node_allowed(x: Node) -> bool
+// A node without words, as most are, is passed first, for speed.
+pub fn node_allowed(x: Node) -> bool
     ensures { λ r. ⌜ r ≡ nodeAllowed x ⌝ }
 {
+    if (x.first == 0) & (x.second == 0) {
+        return x.tag <= node_tag::VARIABLE;
+    }
     let tag = x.tag;
-    let unused = (x.first == 0) & (x.second == 0);
     match tag {
         node_tag::ADDRESS => true,
-        node_tag::FUNCTION_CALL => unused,
-        node_tag::INFIX => unused,
         node_tag::NUMBER => true,
-        node_tag::PI => unused,
-        node_tag::PREFIX => unused,
         node_tag::VARIABLE => x.second == 0,
         _ => false,
     }

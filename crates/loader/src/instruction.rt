@@ -3,12 +3,14 @@ ghost use mathlib.Core.Path.{_≡_};
 ghost use mathlib.Core.Bool.{_&&_, _||_};
 ghost use Prim.Native.Nat.{_<_, _≤_};
 ghost use lib.Dec.{eqb, ltb};
-ghost use Rattle.tables.specs.Rows.{nodeRows};
+ghost use lib.ListN.{length};
+ghost use Rattle.tables.specs.Rows.{nodeRows, nodeLimit};
 ghost use Rattle.tables.specs.Ends.{EndsFrom};
 ghost use Rattle.tables.specs.Source as source;
+ghost use Rattle.loader.specs.Allowed.{nodesAllowed};
 ghost use Rattle.loader.specs.Instruction.{upTo, sourceAllowed, instructionAllowed, instructionsAllowed};
+use crate::nodes::nodes_end;
 use tables::ends::ends_with;
-use tables::ends::tree_ends;
 use tables::family;
 use tables::operator;
 use tables::rows::INSTRUCTION_WIDTH;
@@ -113,28 +115,43 @@ fn rows_allowed(instructions: &[u64], nodes: &[u64], ends: &[u16], arguments: us
     true
 }
 
+// The nodes, then the rows, whose frames ask where the nodes' trees end.
+fn allowed_with_ends(
+    instructions: &[u64],
+    nodes: &[u64],
+    ends: &mut [u16],
+    arguments: usize,
+) -> bool
+    requires { ⌜ (nodeRows (now nodes) ≤ nodeLimit) × (nodeRows (now nodes) < length (now ends)) ⌝ }
+    ensures { λ r. ⌜ r ≡ (nodesAllowed (now (nodes .entry)) && instructionsAllowed (now (nodes .entry)) arguments (now (instructions .entry))) ⌝ }
+{
+    if !nodes_end(nodes, ends) {
+        return false;
+    }
+    rows_allowed(instructions, nodes, ends, arguments)
+}
+
 // With room for few nodes, which takes little to clear.
 fn allowed_with_few_nodes(instructions: &[u64], nodes: &[u64], arguments: usize) -> bool
     requires { ⌜ nodeRows (now nodes) < 64 ⌝ }
-    ensures { λ r. ⌜ r ≡ instructionsAllowed (now (nodes .entry)) arguments (now (instructions .entry)) ⌝ }
+    ensures { λ r. ⌜ r ≡ (nodesAllowed (now (nodes .entry)) && instructionsAllowed (now (nodes .entry)) arguments (now (instructions .entry))) ⌝ }
 {
     let mut ends = [0; FEW_NODES];
-    tree_ends(nodes, &mut ends);
-    rows_allowed(instructions, nodes, &ends, arguments)
+    allowed_with_ends(instructions, nodes, &mut ends, arguments)
 }
 
 fn allowed_with_many_nodes(instructions: &[u64], nodes: &[u64], arguments: usize) -> bool
-    requires { ⌜ nodeRows (now nodes) ≤ 2048 ⌝ }
-    ensures { λ r. ⌜ r ≡ instructionsAllowed (now (nodes .entry)) arguments (now (instructions .entry)) ⌝ }
+    requires { ⌜ nodeRows (now nodes) ≤ nodeLimit ⌝ }
+    ensures { λ r. ⌜ r ≡ (nodesAllowed (now (nodes .entry)) && instructionsAllowed (now (nodes .entry)) arguments (now (instructions .entry))) ⌝ }
 {
     let mut ends = [0; NODE_LIMIT + 1];
-    tree_ends(nodes, &mut ends);
-    rows_allowed(instructions, nodes, &ends, arguments)
+    allowed_with_ends(instructions, nodes, &mut ends, arguments)
 }
 
-pub fn instructions_allowed(instructions: &[u64], nodes: &[u64], arguments: usize) -> bool
-    requires { ⌜ nodeRows (now nodes) ≤ 2048 ⌝ }
-    ensures { λ r. ⌜ r ≡ instructionsAllowed (now (nodes .entry)) arguments (now (instructions .entry)) ⌝ }
+// Every word rule of the nodes and the instructions.
+pub fn nodes_and_rows_allowed(instructions: &[u64], nodes: &[u64], arguments: usize) -> bool
+    requires { ⌜ nodeRows (now nodes) ≤ nodeLimit ⌝ }
+    ensures { λ r. ⌜ r ≡ (nodesAllowed (now (nodes .entry)) && instructionsAllowed (now (nodes .entry)) arguments (now (instructions .entry))) ⌝ }
 {
     if nodes.len() / NODE_WIDTH < FEW_NODES {
         return allowed_with_few_nodes(instructions, nodes, arguments);

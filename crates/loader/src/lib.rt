@@ -2,4 +2,5 @@
 pub mod allowed;
 pub mod instruction;
 pub mod load;
+pub mod nodes;
 pub mod shape;

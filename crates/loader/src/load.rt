@@ -1,7 +1,7 @@
 // Refusals 1, 2 and 3 over all tables, in that order.
 ghost use mathlib.Core.Path.{_≡_};
 ghost use Prim.Native.Nat.{_≤_};
-ghost use Rattle.tables.specs.Rows.{nodeRows};
+ghost use Rattle.tables.specs.Rows.{nodeLimit, nodeRows};
 ghost use Rattle.tables.specs.Tables.{tablesOf};
 ghost use Rattle.tables.specs.Look.{lookOutcome};
 ghost use Rattle.loader.specs.Load.{allowedTables, distinctNames, chosenRow, loadLook, loadRowLook, loadNodesLook};
@@ -10,7 +10,7 @@ use crate::allowed::externs_allowed;
 use crate::allowed::nodes_allowed;
 use crate::allowed::parameters_allowed;
 use crate::allowed::regions_allowed;
-use crate::instruction::instructions_allowed;
+use crate::instruction::nodes_and_rows_allowed;
 use crate::shape::whole_rows;
 use crate::shape::whole_tables;
 use tables::look::Look;
@@ -36,19 +36,18 @@ pub fn allowed_tables(
     arguments: &[u64],
     instructions: &[u64],
 ) -> bool
-    requires { ⌜ nodeRows (now nodes) ≤ 2048 ⌝ }
+    requires { ⌜ nodeRows (now nodes) ≤ nodeLimit ⌝ }
     ensures { λ r. ⌜ r ≡ allowedTables (tablesOf (now (regions .entry)) (now (externs .entry)) (now (parameters .entry)) (now (nodes .entry)) (now (arguments .entry)) (now (instructions .entry))) ⌝ }
 {
     regions_allowed(regions)
         & (externs_allowed(externs, parameters.len() / PARAMETER_WIDTH)
             & (parameters_allowed(parameters)
-                & (nodes_allowed(nodes)
-                    & (arguments_allowed(arguments)
-                        & instructions_allowed(
-                            instructions,
-                            nodes,
-                            arguments.len() / ARGUMENT_WIDTH,
-                        )))))
+                & (arguments_allowed(arguments)
+                    & nodes_and_rows_allowed(
+                        instructions,
+                        nodes,
+                        arguments.len() / ARGUMENT_WIDTH,
+                    ))))
 }
 
 // No two regions and no two externs of one name.

@@ -97,3 +97,11 @@ all-from test (suc n) i all = rw (all i (omega arith) (omega arith)) (all-from t
 pub every-all : (test : ℕ → Bool) (n : ℕ) → ((k : ℕ) → k < n → test k ≡ true) → every test n ≡ true
 unfolding every
 every-all test n all = all-from test n 0 (λ k l h. all k (omega arith))
+
+-- a row that fails, whichever it is
+pub every-miss : (test : ℕ → Bool) (n k : ℕ) → k < n → test k ≡ false → false ≡ every test n
+every-miss test n k h e = at (every test n) refl
+  where
+    at : (t : Bool) → every test n ≡ t → false ≡ t
+    at true q = never (sym e ∙ every-row test n q k h)
+    at false q = refl

@@ -4,7 +4,7 @@ use mathlib.Core.List.{List}
 use mathlib.Core.Path.{_≡_}
 use lib.Dec.{eqb}
 use lib.ListN.{getD, length}
-use Rattle.tables.specs.Rows.{nodeRows}
+use Rattle.tables.specs.Rows.{nodeLimit, nodeRows}
 use Rattle.tables.specs.Tree.{treesFrom}
 
 -- e is the row after the tree that starts at row i; 0 where it does not end in the table
@@ -16,5 +16,5 @@ pub record TreeEnd (nodes : List ℕ) (i e : ℕ) : Type 0 where
 -- the ends of the trees of row i and the rows after it, in a list that has room for one more
 pub record EndsFrom (nodes ends : List ℕ) (i : ℕ) : Type 0 where
   pub room : nodeRows nodes < length ends
-  pub rows : nodeRows nodes ≤ 2048
+  pub rows : nodeRows nodes ≤ nodeLimit
   pub each : (k : ℕ) → i ≤ k → k ≤ nodeRows nodes → TreeEnd nodes k (getD ends k 0)

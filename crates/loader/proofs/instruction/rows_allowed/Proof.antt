@@ -31,7 +31,10 @@ instruction-allowed-requires c κs = search needs
 
 returns : tie.Need-returns Inv-loop μ-loop
 unfolding instructionsAllowed
-returns c = every-stop _ _ _ (c .before .before .before .before .loop .inv .1) (search needs) (ap (instructionAllowed (c .before .before .before .before .before .before .before .before .args .nodes .now) (c .before .before .before .before .before .before .before .before .args .arguments)) (sym (c .before .before .instruction-at .ensures)) ∙ (sym (c .before .instruction-allowed .ensures) ∙ not-true _ (c .if1 .taken)))
+returns c =
+    let turn = c .before .before .before .before in
+    let start = turn .before .before .before .before in
+    every-stop _ _ _ (turn .loop .inv .1) (search needs) (ap (instructionAllowed (start .args .nodes .now) (start .args .arguments)) (sym (c .before .before .instruction-at .ensures)) ∙ (sym (c .before .instruction-allowed .ensures) ∙ not-true _ (c .if1 .taken)))
 
 add-i : tie.Need-add-i Inv-loop μ-loop
 add-i c = search needs
@@ -41,7 +44,10 @@ loop-less c = search needs
 
 loop-again : tie.Need-loop-again Inv-loop μ-loop
 unfolding instructionsAllowed
-loop-again c = (c .before .before .before .before .loop .inv .0, every-turn _ _ _ (c .before .before .before .before .loop .inv .1) (search needs) (ap (instructionAllowed (c .before .before .before .before .before .before .before .before .args .nodes .now) (c .before .before .before .before .before .before .before .before .args .arguments)) (sym (c .before .before .instruction-at .ensures)) ∙ (sym (c .before .instruction-allowed .ensures) ∙ not-false _ (c .if1 .left))))
+loop-again c =
+    let turn = c .before .before .before .before in
+    let start = turn .before .before .before .before in
+    (turn .loop .inv .0, every-turn _ _ _ (turn .loop .inv .1) (search needs) (ap (instructionAllowed (start .args .nodes .now) (start .args .arguments)) (sym (c .before .before .instruction-at .ensures)) ∙ (sym (c .before .instruction-allowed .ensures) ∙ not-false _ (c .if1 .left))))
 
 returns-2 : tie.Need-returns-2 Inv-loop μ-loop
 unfolding instructionsAllowed

@@ -1,4 +1,4 @@
-use Rattle.loader.specs.Load.{allowedTables}
+use Rattle.loader.proofs.NodesLaws.{all-allowed}
 use borrow.Author.Needs.{needs}
 use Rattle.loader.proofs.load.allowed_tables.Statement.{statement}
 use Rattle.loader.proofs.load.allowed_tables.Tie as tie
@@ -6,10 +6,9 @@ use Rattle.loader.proofs.load.allowed_tables.Reads as reads
 use Rattle.loader.proofs.load.allowed_tables.Lts as lts
 use Rattle.loader.proofs.allowed.arguments_allowed.Reads as arguments-allowed-reads
 use Rattle.loader.proofs.allowed.externs_allowed.Reads as externs-allowed-reads
-use Rattle.loader.proofs.allowed.nodes_allowed.Reads as nodes-allowed-reads
 use Rattle.loader.proofs.allowed.parameters_allowed.Reads as parameters-allowed-reads
 use Rattle.loader.proofs.allowed.regions_allowed.Reads as regions-allowed-reads
-use Rattle.loader.proofs.instruction.instructions_allowed.Reads as instructions-allowed-reads
+use Rattle.loader.proofs.instruction.nodes_and_rows_allowed.Reads as nodes-and-rows-allowed-reads
 
 regions-allowed-requires : tie.Need-regions-allowed-requires
 regions-allowed-requires c κs = search needs
@@ -20,18 +19,14 @@ externs-allowed-requires c κs = search needs
 parameters-allowed-requires : tie.Need-parameters-allowed-requires
 parameters-allowed-requires c κs = search needs
 
-nodes-allowed-requires : tie.Need-nodes-allowed-requires
-nodes-allowed-requires c κs = search needs
-
 arguments-allowed-requires : tie.Need-arguments-allowed-requires
 arguments-allowed-requires c κs = search needs
 
-instructions-allowed-requires : tie.Need-instructions-allowed-requires
-instructions-allowed-requires c κs = search needs
+nodes-and-rows-allowed-requires : tie.Need-nodes-and-rows-allowed-requires
+nodes-and-rows-allowed-requires c κs = search needs
 
 returns : tie.Need-returns
-unfolding allowedTables
-returns c = rw (c .before .before .before .before .before .regions-allowed .ensures, c .before .before .before .before .externs-allowed .ensures, c .before .before .before .parameters-allowed .ensures, c .before .before .nodes-allowed .ensures, c .before .arguments-allowed .ensures, c .instructions-allowed .ensures)
+returns c = all-allowed _ (c .before .before .before .before .regions-allowed .ensures) (c .before .before .before .externs-allowed .ensures) (c .before .before .parameters-allowed .ensures) (c .before .arguments-allowed .ensures) (c .nodes-and-rows-allowed .ensures)
 
 pub allowed-tables-spec : {M : Type 1} → statement M
 allowed-tables-spec =
@@ -40,7 +35,6 @@ allowed-tables-spec =
     regions-allowed-requires
     externs-allowed-requires
     parameters-allowed-requires
-    nodes-allowed-requires
     arguments-allowed-requires
-    instructions-allowed-requires
+    nodes-and-rows-allowed-requires
     returns)
