@@ -6,7 +6,6 @@ use mathlib.Core.List.{List, [], _∷_}
 use borrow.Author.Tests.{ne-eqb}
 use Rattle.tables.specs.Rows.{argumentAt}
 use Rattle.extern_call.specs.Argument.{argumentOf, argumentNames}
-use Rattle.extern_call.specs.Resolved.{resolvedName, resolvedMutable}
 use Rattle.extern_call.specs.Call.{placeOf, resolutionAt}
 use Rattle.extern_call.specs.declared.argument.UnresolvedCallArgument.{UnresolvedCallArgument}
 use Rattle.extern_call.specs.declared.resolved.ResolvedCallArgument.{ResolvedCallArgument}
@@ -15,7 +14,7 @@ use Rattle.extern_call.specs.declared.call.Call.{Call}
 use Rattle.extern_call.specs.declared.call.Place.{Place}
 use Rattle.extern_call.specs.declared.call.Place.the-variants as P
 use Rattle.extern_call.specs.declared.call.CallResolution.the-variants.{Resolved}
-use Rattle.extern_call.proofs.ResolvedLaws.{Facts, mutableFor, resolved-facts}
+use Rattle.extern_call.proofs.ResolvedLaws.{resolvedName, resolvedMutable, Facts, mutableFor, resolved-facts}
 use Rattle.access_sets.specs.Set.{has}
 use Rattle.access_sets.specs.Access.{namesIn, writtenFor, writtenAt, pairedCount, accessOf}
 use Rattle.access_sets.specs.declared.access.Access.the-variants.{Write}

@@ -22,9 +22,9 @@ use tables::refusal::EXTERN_NOT_FOUND;
 use tables::rows::Instruction;
 
 // Words in a row of each kind.
-pub const ERROR_WIDTH: usize = 7;
+const ERROR_WIDTH: usize = 7;
 
-pub const RESOLVED_WIDTH: usize = 5;
+const RESOLVED_WIDTH: usize = 5;
 
 pub enum ResolveAnswer {
     Refused(u64),
