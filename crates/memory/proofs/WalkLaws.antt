@@ -26,31 +26,26 @@ abbrev told : List ℕ → Next → ℕ → List MemoryReference
 told nodes (Reference r) place = r ∷ rest nodes place
 told nodes End place = []
 
--- a step from row i, where these addresses are left: the first of them, and where it leads, to the end past the rows, or else on and within them
-record Step (nodes : List ℕ) (i : ℕ) (left : List MemoryReference) (s : Stepped) : Type 0 where
+-- a step where these addresses are left: it hands out the first of them, and leads past the rows where there is none
+record Step (nodes : List ℕ) (left : List MemoryReference) (s : Stepped) : Type 0 where
   says : left ≡ told nodes (s .found) (s .place)
   over : s .found ≡ End → s ≡ ended nodes
-  on : (s .found ≡ End → ⊥) → i < s .place
-  within : s .place ≤ nodeRows nodes
 
-step-or-skip : (nodes : List ℕ) (b : Bool) (i n : ℕ) (s : Stepped) → suc n ≡ nodeRows nodes - i → Step nodes (i + 1) (rowReferences nodes (i + 1) n) s
-    → Step nodes i (cond b (referenceAt nodes i ∷ rowReferences nodes (i + 1) n) (rowReferences nodes (i + 1) n)) (cond b (handedOut nodes i) s)
+step-or-skip : (nodes : List ℕ) (b : Bool) (i n : ℕ) (s : Stepped) → suc n ≡ nodeRows nodes - i → Step nodes (rowReferences nodes (i + 1) n) s
+    → Step nodes (cond b (referenceAt nodes i ∷ rowReferences nodes (i + 1) n) (rowReferences nodes (i + 1) n)) (cond b (handedOut nodes i) s)
 step-or-skip nodes true i n s h l =
     record {
       says = let e : n ≡ nodeRows nodes - (i + 1) = omega arith in ap (λ (k : ℕ). referenceAt nodes i ∷ rowReferences nodes (i + 1) k) e;
       over = λ e. let z : _≡_ {A = ℕ} 0 1 = cc in absurd (omega arith);
-      on = λ e. omega arith;
-      within = omega arith;
     }
-step-or-skip nodes false i n s h l =
-    record { says = l .says; over = l .over; on = λ e. let k : i + 1 < s .place = l .on e in omega arith; within = l .within }
+step-or-skip nodes false i n s h l = l
 
-step-from : (nodes : List ℕ) (i n : ℕ) → n ≡ nodeRows nodes - i → Step nodes i (rowReferences nodes i n) (nextFrom nodes i n)
+step-from : (nodes : List ℕ) (i n : ℕ) → n ≡ nodeRows nodes - i → Step nodes (rowReferences nodes i n) (nextFrom nodes i n)
 unfolding first rowReferences
-step-from nodes i zero h = record { says = refl; over = λ e. refl; on = λ e. absurd (e refl); within = omega arith }
+step-from nodes i zero h = record { says = refl; over = λ e. refl }
 step-from nodes i (suc n) h = step-or-skip nodes (isAddress nodes i) i n (nextFrom nodes (i + 1) n) h (step-from nodes (i + 1) n (omega arith))
 
-next-step : (nodes : List ℕ) (place : ℕ) → Step nodes place (rest nodes place) (nextOf nodes place)
+next-step : (nodes : List ℕ) (place : ℕ) → Step nodes (rest nodes place) (nextOf nodes place)
 unfolding nextOf
 next-step nodes place = step-from nodes place (nodeRows nodes - place) refl
 
@@ -91,12 +86,6 @@ row-references-in nodes i n k (suc m) h =
     let g : i + (k + 1) ≡ i + k + 1 = omega arith in
     rw (word-in nodes i n (k * 3) a, word-in nodes i n (k * 3 + 1) b, word-in nodes i n (k * 3 + 2) c, row-references-in nodes i n (k + 1) m (omega arith), d, e, f, g)
 
--- a call from a place in the tree that handed r out: it leads on, within the tree, and r is the first of the addresses that were left
-pub record HandsOut (nodes : List ℕ) (i n place : ℕ) (r : MemoryReference) (after : ℕ) : Type 0 where
-  pub on : place < after
-  pub within : after ≤ n
-  pub left : rowReferences nodes (i + place) (n - place) ≡ r ∷ rowReferences nodes (i + after) (n - after)
-
 module _ (nodes : List ℕ) (i n : ℕ) (one : oneTree nodes i n ≡ true) where
   -- the part has as many rows as the tree
   rows-in : nodeRows (nodesIn nodes i n) ≡ n
@@ -119,34 +108,18 @@ module _ (nodes : List ℕ) (i n : ℕ) (one : oneTree nodes i n ≡ true) where
   calls-references k = calls-by-row (nodesIn nodes i n) 0 k ∙ ap (λ l. kthOf l k) all-in
 
   -- a place past the tree is the end
-  pub past-tree : (place : ℕ) → n ≤ place → nextIn nodes i n place ≡ record { found = End; place = n }
+  past-tree : (place : ℕ) → n ≤ place → nextIn nodes i n place ≡ record { found = End; place = n }
   unfolding nextIn nextOf first
   past-tree place h = let z : nodeRows (nodesIn nodes i n) - place ≡ 0 = omega (arith, rows-in) in rw (z, rows-in)
 
   module _ (place : ℕ) (s : Stepped) (e : s ≡ nextIn nodes i n place) where
-    step-in : Step (nodesIn nodes i n) place (rest (nodesIn nodes i n) place) s
+    step-in : Step (nodesIn nodes i n) (rest (nodesIn nodes i n) place) s
     unfolding nextIn
     step-in = rw e (next-step (nodesIn nodes i n) place)
 
     -- an end for good: the call after it gives the same again
-    pub end-for-good : s .found ≡ End → nextIn nodes i n (s .place) ≡ s
+    end-for-good : s .found ≡ End → nextIn nodes i n (s .place) ≡ s
     end-for-good f = rw (step-in .over f) (past-tree (nodeRows (nodesIn nodes i n)) (omega (arith, rows-in)) ∙ rw rows-in)
-
-    said : place ≤ n → (f : Next) → s .found ≡ f → rowReferences nodes (i + place) (n - place) ≡ told (nodesIn nodes i n) f (s .place)
-    said h f g = sym (rest-in place h) ∙ (step-in .says ∙ ap (λ (f : Next). told (nodesIn nodes i n) f (s .place)) g)
-
-    -- and no address was left
-    pub none-left : place ≤ n → s .found ≡ End → rowReferences nodes (i + place) (n - place) ≡ []
-    none-left h f = said h End f
-
-    pub hands-out : place ≤ n → (r : MemoryReference) → s .found ≡ Reference r → HandsOut nodes i n place r (s .place)
-    hands-out h r f =
-        let w : s .place ≤ n = omega (arith, rows-in, step-in .within) in
-        record {
-          on = step-in .on (λ z. let y : _≡_ {A = ℕ} 0 1 = cc in omega arith);
-          within = w;
-          left = said h (Reference r) f ∙ ap (λ l. r ∷ l) (rest-in (s .place) w);
-        }
 
   -- THE WALK of Walk.antt, of a range that is exactly one tree
   pub tree-walk : Walk nodes i n
