@@ -1,6 +1,5 @@
 -- A CALL resolved into lent rows. 01, Order: "Resolve: 1, 2, 3, 6, 7, 4 (7 words an argument), 8."
-use Prim.Native.Nat.{ℕ, _+_, _*_}
-use mathlib.Core.Path.{_≡_}
+use Prim.Native.Nat.{ℕ, _*_}
 use mathlib.Core.Bool.{cond}
 use mathlib.Core.List.{List, [], _∷_}
 use lib.Dec.{leb}
@@ -46,11 +45,6 @@ unfoldable pub resolvedArguments : List ℕ → List ℕ → List ℕ → Call �
 resolvedArguments regions parameters arguments call =
     gather (λ i. resolvedIn (resolutionAt regions parameters arguments call i)) 0 (call .«argument_count»)
 
--- the items' rows stand in a lent list after `count` rows of that width, and n rows stand there then; nothing else has changed
-pub record Stored {A : Type 0} (row : A → List ℕ) (width count : ℕ) (items : List A) (entry exit : List ℕ) (n : ℕ) : Type 0 where
-  pub total : n ≡ count + length items
-  pub words : exit ≡ sets entry (count * width) (flat row items)
-
 -- what resolve gives: its answer, and the lent rows at exit
 pub record Resolving : Type 0 where
   pub answer : ResolveAnswer
@@ -65,7 +59,7 @@ resolveNumber (A.Refused number) = number
 resolveNumber (A.Errors count) = argumentErrors
 resolveNumber (A.Resolved count) = 0
 
--- how many rows were written, where any may be
+-- how many rows were written, on 0 and on 8
 abbrev pub resolveCount : ResolveAnswer → List ℕ
 resolveCount (A.Refused number) = []
 resolveCount (A.Errors count) = count ∷ []
