@@ -24,7 +24,7 @@ use Rattle.extern_call.specs.declared.resolved.ResolvedCallArgument.{Res
 use Rattle.extern_call.specs.declared.resolved.ResolvedCallArgument.the-variants as R
 use Rattle.extern_call.specs.declared.resolve.Resolution.{Resolution}
 use Rattle.extern_call.specs.declared.resolve.Resolution.the-variants as N
-use Rattle.extern_call.specs.declared.call.Call.{Call}
+use Rattle.extern_call.specs.declared.call.ExternCall.{ExternCall}
 use Rattle.extern_call.specs.declared.call.Place.{Place}
 use Rattle.extern_call.specs.declared.call.Place.the-variants as P
 use Rattle.extern_call.specs.declared.call.CallResolution.{CallResolution}
@@ -140,7 +140,7 @@ return-facts regions row kind (Reference name index) = scalar-facts regions (Ref
 return-facts regions row kind (Immediate x y) = tt
 
 -- the mutable word of a place: the return is written
-abbrev pub mutableFor : List ℕ → Call → Place → ℕ
+abbrev pub mutableFor : List ℕ → ExternCall → Place → ℕ
 mutableFor parameters call P.Return = 1
 mutableFor parameters call (P.Parameter k) = parameterAt parameters (call .«first_parameter» + k) .mutable
 
@@ -156,7 +156,7 @@ of-parameter : (Q : ResolvedCallArgument → Type 0) (index : ℕ) (r : Resoluti
 of-parameter Q index (N.Resolved r) q = q
 of-parameter Q index (N.Failed e) q = tt
 
-module _ (regions parameters arguments : List ℕ) (call : Call) (i : ℕ) where
+module _ (regions parameters arguments : List ℕ) (call : ExternCall) (i : ℕ) where
   row : Argument
   row = argumentAt arguments (call .«first_argument» + i)
 

@@ -14,7 +14,7 @@ use Rattle.extern_call.specs.Gather.{gather, flat}
 use Rattle.extern_call.specs.Call.{findCall, isCounted, resolutionAt, allResolve}
 use Rattle.extern_call.specs.declared.error.CallArgumentError.{CallArgumentError}
 use Rattle.extern_call.specs.declared.resolved.ResolvedCallArgument.{ResolvedCallArgument}
-use Rattle.extern_call.specs.declared.call.Call.{Call}
+use Rattle.extern_call.specs.declared.call.ExternCall.{ExternCall}
 use Rattle.extern_call.specs.declared.call.CallResolution.{CallResolution}
 use Rattle.extern_call.specs.declared.call.CallResolution.the-variants.{Resolved, Failed}
 use Rattle.extern_call.specs.declared.rows.ResolveAnswer.{ResolveAnswer}
@@ -36,12 +36,12 @@ resolvedIn (Resolved a) = a ∷ []
 resolvedIn (Failed e) = []
 
 -- the ordered list of a CALL's errors
-unfoldable pub errorsOf : List ℕ → List ℕ → List ℕ → Call → List CallArgumentError
+unfoldable pub errorsOf : List ℕ → List ℕ → List ℕ → ExternCall → List CallArgumentError
 errorsOf regions parameters arguments call =
     gather (λ i. errorIn (resolutionAt regions parameters arguments call i)) 0 (call .«argument_count»)
 
 -- its resolved arguments, in order
-unfoldable pub resolvedArguments : List ℕ → List ℕ → List ℕ → Call → List ResolvedCallArgument
+unfoldable pub resolvedArguments : List ℕ → List ℕ → List ℕ → ExternCall → List ResolvedCallArgument
 resolvedArguments regions parameters arguments call =
     gather (λ i. resolvedIn (resolutionAt regions parameters arguments call i)) 0 (call .«argument_count»)
 

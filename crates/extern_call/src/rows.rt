@@ -8,8 +8,8 @@ ghost use Rattle.extern_call.specs.Resolved.{resolvedRow};
 ghost use Rattle.extern_call.specs.Call.{Counted, CallRanges};
 ghost use Rattle.extern_call.specs.Inner.{Stored};
 ghost use Rattle.extern_call.specs.Rows.{errorIn, resolvedIn, errorsOf, resolvedArguments, errorWidth, resolvedWidth, resolving, resolveCall};
-use crate::call::Call;
 use crate::call::CallResolution;
+use crate::call::ExternCall;
 use crate::call::FoundCall;
 use crate::call::all_resolve;
 use crate::call::expected_count;
@@ -77,7 +77,7 @@ fn write_errors(
     regions: &[u64],
     parameters: &[u64],
     arguments: &[u64],
-    call: Call,
+    call: ExternCall,
     rows: &mut [u64],
 ) -> usize
     requires { ⌜ Counted (now parameters) (now arguments) call × (errorWidth * call .«argument_count» ≤ length (now rows)) ⌝ }
@@ -99,7 +99,7 @@ fn write_resolved(
     regions: &[u64],
     parameters: &[u64],
     arguments: &[u64],
-    call: Call,
+    call: ExternCall,
     rows: &mut [u64],
 ) -> usize
     requires { ⌜ Counted (now parameters) (now arguments) call × (errorWidth * call .«argument_count» ≤ length (now rows)) ⌝ }

@@ -17,7 +17,7 @@ use Rattle.tables.proofs.FirstLaws.{every-row}
 use Rattle.tables.proofs.LookupLaws.{region-row, region-named}
 use Rattle.loader.proofs.Loaded.{both}
 use Rattle.extern_call.specs.Call.{resolutionAt}
-use Rattle.extern_call.specs.declared.call.Call.{Call}
+use Rattle.extern_call.specs.declared.call.ExternCall.{ExternCall}
 use Rattle.extern_call.specs.declared.call.CallResolution.{CallResolution}
 use Rattle.extern_call.specs.declared.call.CallResolution.the-variants as C
 use Rattle.extern_call.specs.declared.resolved.ResolvedCallArgument.{ResolvedCallArgument}
@@ -85,7 +85,7 @@ module _ (t : Tables) (x : Instruction) (kinds : KindsAllowed (t .regions)) wher
         allowed = λ u. rw (region-of (t .regions) r i l (a .index), region-named (t .regions) name r (a .named)) h;
       })
 
-  module _ {call : Call} (v : Resolvable (t .regions) (t .externs) (t .parameters) (t .arguments) x call) where
+  module _ {call : ExternCall} (v : Resolvable (t .regions) (t .externs) (t .parameters) (t .arguments) x call) where
     abbrev resolution : ℕ → CallResolution
     resolution i = resolutionAt (t .regions) (t .parameters) (t .arguments) call i
 

@@ -15,7 +15,7 @@ use Rattle.tables.specs.declared.rows.Instruction.{Instruction}
 use Rattle.type_check.specs.Check.{checkOf}
 use Rattle.type_check.specs.declared.error.Verdict.the-variants.{Accepted}
 use Rattle.extern_call.specs.Call.{findCall}
-use Rattle.extern_call.specs.declared.call.Call.{Call}
+use Rattle.extern_call.specs.declared.call.ExternCall.{ExternCall}
 use Rattle.access_sets.specs.Set.{has}
 use Rattle.access_sets.specs.Access.{accessOf}
 use Rattle.access_sets.specs.declared.access.Access.the-variants.{Write}
@@ -47,7 +47,7 @@ pub record Typed (regions cells : List ℕ) : Type 0 where
   pub each : (c : ℕ) → c < cellCount regions → Fits regions (held cells c)
 
 -- the names that `access` lists as written by a CALL
-abbrev pub writtenNames : Tables → Outcome Call → List ℕ
+abbrev pub writtenNames : Tables → Outcome ExternCall → List ℕ
 writtenNames t (ok call) = accessOf (t .parameters) (t .arguments) call Write
 writtenNames t (refuse number) = []
 
