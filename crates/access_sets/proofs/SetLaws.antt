@@ -7,7 +7,7 @@ use native.Mathlib.Omega.{arith}
 use borrow.Author.Tests.{eq-eqb, ne-eqb, eqb-true, eqb-false, ltb-true, ltb-false}
 use lib.Dec.{eqb, ltb}
 use Rattle.extern_call.specs.Gather.{gather}
-use Rattle.extern_call.specs.declared.call.Call.{Call}
+use Rattle.extern_call.specs.declared.call.ExternCall.{ExternCall}
 use Rattle.access_sets.specs.Set.{inserted, insertAll, has, Above, Ascending, Distinct}
 use Rattle.access_sets.specs.Access.{accessOf, namesAt, pairedCount}
 use Rattle.access_sets.specs.Laws.{AccessSet}
@@ -103,7 +103,7 @@ has-all [] s x = or-none (has x s)
 has-all (n ∷ ns) s x = has-all ns (inserted n s) x ∙ rw (has-insert s x n) (or-move (eqb x n) (has x s) (has x ns))
 
 -- THE LAW of Laws.antt
-pub access-set : (parameters arguments : List ℕ) (call : Call) (access : Access) → AccessSet parameters arguments call access
+pub access-set : (parameters arguments : List ℕ) (call : ExternCall) (access : Access) → AccessSet parameters arguments call access
 unfolding accessOf has
 access-set parameters arguments call access =
     let names = gather (namesAt parameters arguments call access) 0 (pairedCount call) in
@@ -134,7 +134,7 @@ has-gather f x i (suc n) (suc k) h e =
     has-append x (f i) (gather f (i + 1) n) (has-gather f x (i + 1) n k (omega arith) (rw z at e))
 
 -- the name that an argument adds is in the set
-pub added-has : (parameters arguments : List ℕ) (call : Call) (access : Access) (x i : ℕ) → i < pairedCount call
+pub added-has : (parameters arguments : List ℕ) (call : ExternCall) (access : Access) (x i : ℕ) → i < pairedCount call
     → namesAt parameters arguments call access i ≡ x ∷ [] → has x (accessOf parameters arguments call access) ≡ true
 added-has parameters arguments call access x i h e =
     let z : 0 + i ≡ i = omega arith in

@@ -6,22 +6,21 @@ use mathlib.Core.List.{List, [], _∷_}
 use borrow.Author.Tests.{ne-eqb}
 use Rattle.tables.specs.Rows.{argumentAt}
 use Rattle.extern_call.specs.Argument.{argumentOf, argumentNames}
-use Rattle.extern_call.specs.Resolved.{resolvedName, resolvedMutable}
 use Rattle.extern_call.specs.Call.{placeOf, resolutionAt}
 use Rattle.extern_call.specs.declared.argument.UnresolvedCallArgument.{UnresolvedCallArgument}
 use Rattle.extern_call.specs.declared.resolved.ResolvedCallArgument.{ResolvedCallArgument}
 use Rattle.extern_call.specs.declared.resolved.ResolvedCallArgument.the-variants as R
-use Rattle.extern_call.specs.declared.call.Call.{Call}
+use Rattle.extern_call.specs.declared.call.ExternCall.{ExternCall}
 use Rattle.extern_call.specs.declared.call.Place.{Place}
 use Rattle.extern_call.specs.declared.call.Place.the-variants as P
 use Rattle.extern_call.specs.declared.call.CallResolution.the-variants.{Resolved}
-use Rattle.extern_call.proofs.ResolvedLaws.{Facts, mutableFor, resolved-facts}
+use Rattle.extern_call.proofs.ResolvedLaws.{resolvedName, resolvedMutable, Facts, mutableFor, resolved-facts}
 use Rattle.access_sets.specs.Set.{has}
 use Rattle.access_sets.specs.Access.{namesIn, writtenFor, writtenAt, pairedCount, accessOf}
 use Rattle.access_sets.specs.declared.access.Access.the-variants.{Write}
 use Rattle.access_sets.proofs.SetLaws.{added-has}
 
-written-mutable : (parameters : List ℕ) (call : Call) (p : Place) → (mutableFor parameters call p ≡ 0 → ⊥) → writtenFor parameters call p ≡ true
+written-mutable : (parameters : List ℕ) (call : ExternCall) (p : Place) → (mutableFor parameters call p ≡ 0 → ⊥) → writtenFor parameters call p ≡ true
 written-mutable parameters call P.Return h = refl
 written-mutable parameters call (P.Parameter k) h = rw (ne-eqb _ _ h)
 
@@ -31,7 +30,7 @@ facts-named regions a m (R.Vector name v mutable) f h = (f .names, λ e. h (f .m
 facts-named regions a m (R.MemoryReference name index kind mutable) f h = (f .names, λ e. h (f .mutability ∙ e))
 facts-named regions a m (R.Immediate real imaginary kind) f h = absurd (h refl)
 
-pub mutable-written : (regions parameters arguments : List ℕ) (call : Call) (i : ℕ) (r : ResolvedCallArgument) → i < pairedCount call
+pub mutable-written : (regions parameters arguments : List ℕ) (call : ExternCall) (i : ℕ) (r : ResolvedCallArgument) → i < pairedCount call
     → resolutionAt regions parameters arguments call i ≡ Resolved r → (resolvedMutable r ≡ 0 → ⊥)
     → has (resolvedName r) (accessOf parameters arguments call Write) ≡ true
 unfolding namesIn writtenAt

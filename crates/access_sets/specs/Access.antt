@@ -13,7 +13,7 @@ use Rattle.tables.specs.declared.rows.Instruction.{Instruction}
 use Rattle.extern_call.specs.Argument.{argumentOf, argumentNames}
 use Rattle.extern_call.specs.Gather.{gather}
 use Rattle.extern_call.specs.Call.{findCall, expectedCount, placeOf}
-use Rattle.extern_call.specs.declared.call.Call.{Call}
+use Rattle.extern_call.specs.declared.call.ExternCall.{ExternCall}
 use Rattle.extern_call.specs.declared.call.Place.{Place}
 use Rattle.extern_call.specs.declared.call.Place.the-variants.{Return, Parameter}
 use Rattle.access_sets.specs.Set.{insertAll}
@@ -27,29 +27,29 @@ unfoldable pub namesIn : Argument → List ℕ
 namesIn row = argumentNames (argumentOf row)
 
 -- "the return's and a mutable parameter's are written too"
-abbrev pub writtenFor : List ℕ → Call → Place → Bool
+abbrev pub writtenFor : List ℕ → ExternCall → Place → Bool
 writtenFor parameters call Return = true
 writtenFor parameters call (Parameter k) = not (eqb (parameterAt parameters (call .«first_parameter» + k) .mutable) 0)
 
-unfoldable pub writtenAt : List ℕ → Call → ℕ → Bool
+unfoldable pub writtenAt : List ℕ → ExternCall → ℕ → Bool
 writtenAt parameters call i = writtenFor parameters call (placeOf call i)
 
 -- "Every identifier and reference left is read"
-abbrev pub listedAt : List ℕ → Call → Access → ℕ → Bool
+abbrev pub listedAt : List ℕ → ExternCall → Access → ℕ → Bool
 listedAt parameters call Read i = true
 listedAt parameters call Write i = writtenAt parameters call i
 
 -- the names that argument i adds to a set
-abbrev pub namesAt : List ℕ → List ℕ → Call → Access → ℕ → List ℕ
+abbrev pub namesAt : List ℕ → List ℕ → ExternCall → Access → ℕ → List ℕ
 namesAt parameters arguments call access i =
     cond (listedAt parameters call access i) (namesIn (argumentAt arguments (call .«first_argument» + i))) []
 
 -- "They ignore counts: extra arguments or parameters drop off." The lower of the two counts.
-unfoldable pub pairedCount : Call → ℕ
+unfoldable pub pairedCount : ExternCall → ℕ
 pairedCount call = cond (ltb (call .«argument_count») (expectedCount call)) (call .«argument_count») (expectedCount call)
 
 -- the set; Laws.antt says that it is "distinct names, ascending"
-unfoldable pub accessOf : List ℕ → List ℕ → Call → Access → List ℕ
+unfoldable pub accessOf : List ℕ → List ℕ → ExternCall → Access → List ℕ
 accessOf parameters arguments call access = insertAll [] (gather (namesAt parameters arguments call access) 0 (pairedCount call))
 
 -- what access gives: its answer, and the lent lists at exit

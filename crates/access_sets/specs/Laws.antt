@@ -3,12 +3,12 @@ use Prim.Native.Nat.{ℕ}
 use mathlib.Core.Path.{_≡_}
 use mathlib.Core.List.{List}
 use Rattle.extern_call.specs.Gather.{gather}
-use Rattle.extern_call.specs.declared.call.Call.{Call}
+use Rattle.extern_call.specs.declared.call.ExternCall.{ExternCall}
 use Rattle.access_sets.specs.Set.{has, Ascending, Distinct}
 use Rattle.access_sets.specs.Access.{namesAt, pairedCount, accessOf}
 use Rattle.access_sets.specs.declared.access.Access.{Access}
 
-pub record AccessSet (parameters arguments : List ℕ) (call : Call) (access : Access) : Type 0 where
+pub record AccessSet (parameters arguments : List ℕ) (call : ExternCall) (access : Access) : Type 0 where
   pub distinct : Distinct (accessOf parameters arguments call access)
   pub ascending : Ascending (accessOf parameters arguments call access)
   -- a name is in the set exactly where an argument that is not dropped adds it

@@ -11,7 +11,7 @@ ghost use Rattle.access_sets.specs.Inner.{Listed, below};
 ghost use Rattle.access_sets.specs.Access.{namesIn, writtenAt, listedAt, namesAt, pairedCount, accessOf, accessing, accessCall};
 use extern_call::argument::UnresolvedCallArgument;
 use extern_call::argument::decode;
-use extern_call::call::Call;
+use extern_call::call::ExternCall;
 use extern_call::call::FoundCall;
 use extern_call::call::Place;
 use extern_call::call::expected_count;
@@ -93,7 +93,7 @@ fn insert_name(names: &mut [u64], count: usize, row: Argument) -> usize
 }
 
 // Whether argument i is the return's or a mutable parameter's.
-fn is_written(parameters: &[u64], call: Call, i: usize) -> bool
+fn is_written(parameters: &[u64], call: ExternCall, i: usize) -> bool
     requires { ⌜ (call .«first_parameter» + call .«parameter_count» ≤ parameterRows (now parameters)) × (i < expectedCount call) ⌝ }
     ensures { λ r. ⌜ r ≡ writtenAt (now (parameters .entry)) call i ⌝ }
 {
@@ -108,7 +108,7 @@ fn is_written(parameters: &[u64], call: Call, i: usize) -> bool
 }
 
 // Whether argument i is listed in that set.
-fn is_listed(parameters: &[u64], call: Call, i: usize, access: Access) -> bool
+fn is_listed(parameters: &[u64], call: ExternCall, i: usize, access: Access) -> bool
     requires { ⌜ (call .«first_parameter» + call .«parameter_count» ≤ parameterRows (now parameters)) × (i < expectedCount call) ⌝ }
     ensures { λ r. ⌜ r ≡ listedAt (now (parameters .entry)) call access i ⌝ }
 {
@@ -122,7 +122,7 @@ fn is_listed(parameters: &[u64], call: Call, i: usize, access: Access) -> bool
 fn visit(
     parameters: &[u64],
     arguments: &[u64],
-    call: Call,
+    call: ExternCall,
     i: usize,
     access: Access,
     names: &mut [u64],
@@ -139,7 +139,7 @@ fn visit(
 }
 
 // How many arguments are the return's or a parameter's.
-fn paired_count(call: Call) -> usize
+fn paired_count(call: ExternCall) -> usize
     requires { ⌜ call .«parameter_count» + 1 < 2 ^ 64 ⌝ }
     ensures { λ r. ⌜ r ≡ pairedCount call ⌝ }
 {
@@ -155,7 +155,7 @@ fn paired_count(call: Call) -> usize
 fn collect(
     parameters: &[u64],
     arguments: &[u64],
-    call: Call,
+    call: ExternCall,
     access: Access,
     names: &mut [u64],
 ) -> usize

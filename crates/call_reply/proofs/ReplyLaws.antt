@@ -19,7 +19,7 @@ use Rattle.tables.specs.declared.rows.Instruction.{Instruction}
 use Rattle.tables.proofs.FirstLaws.{every-row}
 use Rattle.loader.proofs.Loaded.{both, passed}
 use Rattle.extern_call.specs.Call.{resolutionAt, resolvesCall, CallRanges, Counted, Paired}
-use Rattle.extern_call.specs.declared.call.Call.{Call}
+use Rattle.extern_call.specs.declared.call.ExternCall.{ExternCall}
 use Rattle.extern_call.specs.declared.call.CallResolution.{CallResolution}
 use Rattle.extern_call.specs.declared.call.CallResolution.the-variants as C
 use Rattle.extern_call.specs.declared.resolved.ResolvedCallArgument.{ResolvedCallArgument}
@@ -35,15 +35,15 @@ use Rattle.operands.proofs.AddressLaws.{index-below}
 
 -- ---- a CALL whose reply was judged
 
-pub record Judged (regions externs parameters arguments : List ℕ) (x : Instruction) (reply : List ℕ) (call : Call) : Type 0 where
+pub record Judged (regions externs parameters arguments : List ℕ) (x : Instruction) (reply : List ℕ) (call : ExternCall) : Type 0 where
   pub resolving : Resolvable regions externs parameters arguments x call
   pub scalars : scalarsFit regions parameters arguments call ≡ true
   pub fits : replyFits regions parameters arguments call reply ≡ true
 
-given : {a b : Call} (t : Bool) (n : ℕ) → (need t n >> ok a) ≡ ok b → (t ≡ true) × (a ≡ b)
+given : {a b : ExternCall} (t : Bool) (n : ℕ) → (need t n >> ok a) ≡ ok b → (t ≡ true) × (a ≡ b)
 given t n e = let (p, q) = passed t n _ _ e in (p, (cc))
 
-module _ (regions externs parameters arguments : List ℕ) (x : Instruction) (call : Call) where
+module _ (regions externs parameters arguments : List ℕ) (x : Instruction) (call : ExternCall) where
   pub ready-ok : callReady regions externs parameters arguments x ≡ ok call
       → Resolvable regions externs parameters arguments x call × (scalarsFit regions parameters arguments call ≡ true)
   unfolding callReady
@@ -61,7 +61,7 @@ module _ (regions externs parameters arguments : List ℕ) (x : Instruction) (ca
       record { resolving = r; scalars = s; fits = rw q at f }
 
 -- each of its rows fits
-pub judged-replied : {regions externs parameters arguments : List ℕ} {x : Instruction} {reply : List ℕ} {call : Call}
+pub judged-replied : {regions externs parameters arguments : List ℕ} {x : Instruction} {reply : List ℕ} {call : ExternCall}
     → cellCount regions ≤ 4096 → CallRanges externs parameters arguments x → Judged regions externs parameters arguments x reply call
     → (k : ℕ) → k < replyRows reply → Replied regions parameters arguments call reply k
 unfolding replyFits
@@ -79,7 +79,7 @@ offset-below : (mutable length kind : ℕ) (y : Reply) → fitsRow mutable lengt
 unfolding fitsRow
 offset-below mutable length kind y e = ltb-true (y .offset) length (both (ltb (y .offset) length) _ (both (not (eqb mutable 0)) _ e .1) .0)
 
-module _ (regions parameters arguments : List ℕ) (call : Call) where
+module _ (regions parameters arguments : List ℕ) (call : ExternCall) where
   -- the index of a scalar reference is below its region's length
   pub scalar-below : (i : ℕ) → scalarsFit regions parameters arguments call ≡ true → i < call .«argument_count»
       → (a : CallResolution) → resolutionAt regions parameters arguments call i ≡ a → ofResolved (scalarFits regions) true a ≡ true
@@ -121,7 +121,7 @@ module _ (regions parameters arguments : List ℕ) (call : Call) where
 
 -- ---- how many writes
 
-module _ (regions parameters arguments : List ℕ) (call : Call) (reply : List ℕ) where
+module _ (regions parameters arguments : List ℕ) (call : ExternCall) (reply : List ℕ) where
   replies-length : (k n : ℕ) → length (replyWritesFrom regions parameters arguments call reply k n) ≡ n
   unfolding replyWritesFrom
   replies-length k zero = refl

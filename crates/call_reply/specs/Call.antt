@@ -13,7 +13,7 @@ use Rattle.tables.specs.declared.lookup.Found.{Found}
 use Rattle.tables.specs.declared.lookup.Found.the-variants as F
 use Rattle.tables.specs.declared.rows.Instruction.{Instruction}
 use Rattle.extern_call.specs.Call.{resolutionAt, resolvesCall}
-use Rattle.extern_call.specs.declared.call.Call.{Call}
+use Rattle.extern_call.specs.declared.call.ExternCall.{ExternCall}
 use Rattle.extern_call.specs.declared.call.CallResolution.{CallResolution}
 use Rattle.extern_call.specs.declared.call.CallResolution.the-variants.{Resolved, Failed}
 use Rattle.extern_call.specs.declared.resolved.ResolvedCallArgument.{ResolvedCallArgument}
@@ -77,7 +77,7 @@ abbrev pub ofResolved : {A : Type 0} → (ResolvedCallArgument → A) → A → 
 ofResolved f other (Resolved a) = f a
 ofResolved f other (Failed error) = other
 
-module _ (regions parameters arguments : List ℕ) (call : Call) where
+module _ (regions parameters arguments : List ℕ) (call : ExternCall) where
   -- "14 over scalar references", immutable ones and the return too
   unfoldable pub scalarsFit : Bool
   scalarsFit = every (λ i. ofResolved (scalarFits regions) true (resolutionAt regions parameters arguments call i)) (call .«argument_count»)
@@ -110,14 +110,14 @@ module _ (regions parameters arguments : List ℕ) (call : Call) where
 
 module _ (regions externs parameters arguments : List ℕ) (x : Instruction) where
   -- "6, 7, 8 (number only), 14 over scalar references"
-  unfoldable pub callReady : Outcome Call
+  unfoldable pub callReady : Outcome ExternCall
   callReady = do
     call ← resolvesCall regions externs parameters arguments x
     need (scalarsFit regions parameters arguments call) indexPastLength
     ok call
 
   -- "17": the CALL whose reply fits
-  unfoldable pub callJudged : List ℕ → Outcome Call
+  unfoldable pub callJudged : List ℕ → Outcome ExternCall
   callJudged reply = do
     call ← callReady
     need (replyFits regions parameters arguments call reply) unfitReply

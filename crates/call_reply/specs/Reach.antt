@@ -8,7 +8,7 @@ use Rattle.tables.specs.Lookup.{lookupRegion}
 use Rattle.tables.specs.declared.lookup.Found.{Found}
 use Rattle.tables.specs.declared.lookup.Found.the-variants as F
 use Rattle.extern_call.specs.Call.{resolutionAt, Counted, Paired}
-use Rattle.extern_call.specs.declared.call.Call.{Call}
+use Rattle.extern_call.specs.declared.call.ExternCall.{ExternCall}
 use Rattle.extern_call.specs.declared.call.CallResolution.{CallResolution}
 use Rattle.extern_call.specs.declared.call.CallResolution.the-variants.{Resolved, Failed}
 use Rattle.extern_call.specs.declared.resolved.ResolvedCallArgument.{ResolvedCallArgument}
@@ -32,18 +32,18 @@ HitWithin regions offset (Resolved a) = CellWithin regions offset a
 HitWithin regions offset (Failed error) = Unit {0}
 
 -- argument i and its cell
-pub record Hit (regions parameters arguments : List ℕ) (call : Call) (i offset : ℕ) : Type 0 where
+pub record Hit (regions parameters arguments : List ℕ) (call : ExternCall) (i offset : ℕ) : Type 0 where
   pub few : cellCount regions ≤ 4096
   pub paired : Paired parameters arguments call i
   pub cell : HitWithin regions offset (resolutionAt regions parameters arguments call i)
 
 -- a row of the reply and the arguments that it may hit
-pub record Judging (parameters arguments : List ℕ) (call : Call) (reply : List ℕ) (k : ℕ) : Type 0 where
+pub record Judging (parameters arguments : List ℕ) (call : ExternCall) (reply : List ℕ) (k : ℕ) : Type 0 where
   pub counted : Counted parameters arguments call
   pub row : k < replyRows reply
 
 -- row k of a reply that fits
-pub record Replied (regions parameters arguments : List ℕ) (call : Call) (reply : List ℕ) (k : ℕ) : Type 0 where
+pub record Replied (regions parameters arguments : List ℕ) (call : ExternCall) (reply : List ℕ) (k : ℕ) : Type 0 where
   pub few : cellCount regions ≤ 4096
   pub counted : Counted parameters arguments call
   pub scalars : scalarsFit regions parameters arguments call ≡ true

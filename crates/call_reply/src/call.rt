@@ -12,9 +12,9 @@ use crate::reply::Reply;
 use crate::reply::hits_argument;
 use crate::reply::reply_at;
 use crate::reply::reply_length_fits;
-use extern_call::call::Call;
 use extern_call::call::CallAnswer;
 use extern_call::call::CallResolution;
+use extern_call::call::ExternCall;
 use extern_call::call::resolve_at;
 use extern_call::call::resolves;
 use extern_call::resolved::ResolvedCallArgument;
@@ -64,7 +64,7 @@ fn scalar_fits_at(
     regions: &[u64],
     parameters: &[u64],
     arguments: &[u64],
-    call: Call,
+    call: ExternCall,
     i: usize,
 ) -> bool
     requires { ⌜ Paired (now parameters) (now arguments) call i ⌝ }
@@ -78,7 +78,7 @@ fn scalar_fits_at(
 }
 
 // Every scalar reference, immutable ones and the return too.
-fn scalars_fit(regions: &[u64], parameters: &[u64], arguments: &[u64], call: Call) -> bool
+fn scalars_fit(regions: &[u64], parameters: &[u64], arguments: &[u64], call: ExternCall) -> bool
     requires { ⌜ Counted (now parameters) (now arguments) call ⌝ }
     ensures { λ r. ⌜ r ≡ scalarsFit (now (regions .entry)) (now (parameters .entry)) (now (arguments .entry)) call ⌝ }
 {
@@ -98,7 +98,7 @@ fn hits_at(
     regions: &[u64],
     parameters: &[u64],
     arguments: &[u64],
-    call: Call,
+    call: ExternCall,
     i: usize,
     y: Reply,
 ) -> bool
@@ -116,7 +116,7 @@ fn reply_row_fits(
     regions: &[u64],
     parameters: &[u64],
     arguments: &[u64],
-    call: Call,
+    call: ExternCall,
     reply: &[u64],
     k: usize,
 ) -> bool
@@ -136,7 +136,7 @@ fn reply_fits(
     regions: &[u64],
     parameters: &[u64],
     arguments: &[u64],
-    call: Call,
+    call: ExternCall,
     reply: &[u64],
 ) -> bool
     requires { ⌜ Counted (now parameters) (now arguments) call ⌝ }
@@ -242,7 +242,7 @@ fn cell_at(
     regions: &[u64],
     parameters: &[u64],
     arguments: &[u64],
-    call: Call,
+    call: ExternCall,
     i: usize,
     offset: u64,
 ) -> usize
@@ -261,7 +261,7 @@ pub fn reply_write(
     regions: &[u64],
     parameters: &[u64],
     arguments: &[u64],
-    call: Call,
+    call: ExternCall,
     reply: &[u64],
     k: usize,
 ) -> Write

@@ -16,7 +16,7 @@ use Rattle.tables.specs.Tables.{Tables}
 use Rattle.loader.proofs.Loaded.{Loaded, call-arguments, extern-parameters}
 use Rattle.tables.proofs.LookupLaws.{extern-row}
 use Rattle.extern_call.specs.Call.{callOf, foundExtern, findCall, expectedCount, placeOf, CallRanges, Ranges, Counted, Paired}
-use Rattle.extern_call.specs.declared.call.Call.{Call}
+use Rattle.extern_call.specs.declared.call.ExternCall.{ExternCall}
 use Rattle.extern_call.specs.declared.call.Place.the-variants.{Return, Parameter}
 
 -- what the loader's acceptance gives a CALL's row
@@ -25,23 +25,23 @@ pub loaded-ranges : {t : Tables} (l : Loaded t) (row : ℕ) → row < instructio
 loaded-ranges l row h f = record { argumentRange = call-arguments l row h f; parameterRange = extern-parameters l }
 
 -- the extern of a CALL that is found
-pub record CallAt (externs : List ℕ) (x : Instruction) (call : Call) : Type 0 where
+pub record CallAt (externs : List ℕ) (x : Instruction) (call : ExternCall) : Type 0 where
   pub row : ℕ
   pub named : lookupExtern externs (x .«first_name») ≡ At row
   pub signature : callOf (externAt externs row) x ≡ call
 
-call-by : (externs : List ℕ) (x : Instruction) (f : Found) (call : Call) → lookupExtern externs (x .«first_name») ≡ f
+call-by : (externs : List ℕ) (x : Instruction) (f : Found) (call : ExternCall) → lookupExtern externs (x .«first_name») ≡ f
     → (foundExtern f >>= (λ row. ok (callOf (externAt externs row) x))) ≡ ok call → CallAt externs x call
 unfolding _>>=_
 call-by externs x (At row) call e h = record { row = row; named = e; signature = cc }
 call-by externs x Nothing call e h = let z : _≡_ {A = ℕ} 0 1 = cc in absurd (omega arith)
 
-pub call-at : (externs : List ℕ) (x : Instruction) (call : Call) → findCall externs x ≡ ok call → CallAt externs x call
+pub call-at : (externs : List ℕ) (x : Instruction) (call : ExternCall) → findCall externs x ≡ ok call → CallAt externs x call
 unfolding findCall
 call-at externs x call e = call-by externs x (lookupExtern externs (x .«first_name»)) call refl e
 
 -- its arguments and parameters lie in their tables
-pub call-ranges : {externs parameters arguments : List ℕ} {x : Instruction} {call : Call} → CallRanges externs parameters arguments x
+pub call-ranges : {externs parameters arguments : List ℕ} {x : Instruction} {call : ExternCall} → CallRanges externs parameters arguments x
     → findCall externs x ≡ ok call → Ranges parameters arguments call
 call-ranges {externs} {parameters} {arguments} {x} {call} r e =
     let c = call-at externs x call e in
@@ -55,9 +55,9 @@ place-below false true i k n e h p = let z : _≡_ {A = ℕ} 0 1 = cc in absurd 
 place-below false false i k n e h p = let q : i - 1 ≡ k = cc in omega (arith, eqb-false i 0 e)
 
 -- the parameter of an argument that has one
-pub place-within : (call : Call) (i k : ℕ) → i < expectedCount call → placeOf call i ≡ Parameter k → k < call .«parameter_count»
+pub place-within : (call : ExternCall) (i k : ℕ) → i < expectedCount call → placeOf call i ≡ Parameter k → k < call .«parameter_count»
 unfolding expectedCount placeOf
 place-within call i k h p = place-below (eqb (call .«return_kind») 4) (eqb i 0) i k (call .«parameter_count») refl h p
 
-pub counted-paired : {parameters arguments : List ℕ} {call : Call} (i : ℕ) → Counted parameters arguments call → i < call .«argument_count» → Paired parameters arguments call i
+pub counted-paired : {parameters arguments : List ℕ} {call : ExternCall} (i : ℕ) → Counted parameters arguments call → i < call .«argument_count» → Paired parameters arguments call i
 counted-paired i c h = record { ranges = c .ranges; argument = h; wanted = rw (c .count) at h }

@@ -9,7 +9,8 @@ use lib.ListN.{length, getD, set, drop, length-append, drop-of-length-le}
 use lib.Seq.{sets, drop-cons}
 use Rattle.tables.proofs.FirstLaws.{left-suc}
 use Rattle.extern_call.specs.Gather.{gather, flat}
-use Rattle.extern_call.specs.Rows.{Stored, resolving, withRows}
+use Rattle.extern_call.specs.Inner.{Stored}
+use Rattle.extern_call.specs.Rows.{resolving, withRows}
 use Rattle.extern_call.specs.declared.rows.ResolveAnswer.{ResolveAnswer}
 
 module _ {A : Type 0} (f : ℕ → List A) (n i : ℕ) where

@@ -13,7 +13,7 @@ use Rattle.tables.specs.declared.lookup.Found.the-variants.{At, Nothing}
 use Rattle.tables.specs.declared.rows.Argument.{Argument}
 use Rattle.tables.specs.declared.rows.Parameter.{Parameter}
 use Rattle.loader.proofs.Loaded.{both}
-use Rattle.extern_call.specs.Argument.{argumentOf, argumentNames, argumentIndex}
+use Rattle.extern_call.specs.Argument.{argumentOf, argumentNames}
 use Rattle.extern_call.specs.Vectors.{sameVector, declaredVector, expectedVector}
 use Rattle.extern_call.specs.Resolve.{declared, scalarOf, fixedOf, variableOf, identifierOf, byArgument, resolveArgument, byReturn, resolveReturn}
 use Rattle.extern_call.specs.Call.{placeOf, ofReturn, ofParameter, resolutionFor, resolutionAt}
@@ -24,11 +24,28 @@ use Rattle.extern_call.specs.declared.resolved.ResolvedCallArgument.{Res
 use Rattle.extern_call.specs.declared.resolved.ResolvedCallArgument.the-variants as R
 use Rattle.extern_call.specs.declared.resolve.Resolution.{Resolution}
 use Rattle.extern_call.specs.declared.resolve.Resolution.the-variants as N
-use Rattle.extern_call.specs.declared.call.Call.{Call}
+use Rattle.extern_call.specs.declared.call.ExternCall.{ExternCall}
 use Rattle.extern_call.specs.declared.call.Place.{Place}
 use Rattle.extern_call.specs.declared.call.Place.the-variants as P
 use Rattle.extern_call.specs.declared.call.CallResolution.{CallResolution}
 use Rattle.extern_call.specs.declared.call.CallResolution.the-variants.{Resolved, Failed}
+
+-- an argument's index for a scalar: "An identifier for a scalar, or for the return, means index 0"
+abbrev argumentIndex : UnresolvedCallArgument → ℕ
+argumentIndex (Identifier name) = 0
+argumentIndex (Reference name index) = index
+argumentIndex (Immediate x y) = 0
+
+-- the name and the mutable word of a resolved argument
+abbrev pub resolvedName : ResolvedCallArgument → ℕ
+resolvedName (R.Vector name v mutable) = name
+resolvedName (R.MemoryReference name index kind mutable) = name
+resolvedName (R.Immediate real imaginary kind) = 0
+
+abbrev pub resolvedMutable : ResolvedCallArgument → ℕ
+resolvedMutable (R.Vector name v mutable) = mutable
+resolvedMutable (R.MemoryReference name index kind mutable) = mutable
+resolvedMutable (R.Immediate real imaginary kind) = 0
 
 -- a property of the resolved argument, where there is one
 module _ (Q : ResolvedCallArgument → Type 0) where
@@ -123,7 +140,7 @@ return-facts regions row kind (Reference name index) = scalar-facts regions (Ref
 return-facts regions row kind (Immediate x y) = tt
 
 -- the mutable word of a place: the return is written
-abbrev pub mutableFor : List ℕ → Call → Place → ℕ
+abbrev pub mutableFor : List ℕ → ExternCall → Place → ℕ
 mutableFor parameters call P.Return = 1
 mutableFor parameters call (P.Parameter k) = parameterAt parameters (call .«first_parameter» + k) .mutable
 
@@ -139,7 +156,7 @@ of-parameter : (Q : ResolvedCallArgument → Type 0) (index : ℕ) (r : Resoluti
 of-parameter Q index (N.Resolved r) q = q
 of-parameter Q index (N.Failed e) q = tt
 
-module _ (regions parameters arguments : List ℕ) (call : Call) (i : ℕ) where
+module _ (regions parameters arguments : List ℕ) (call : ExternCall) (i : ℕ) where
   row : Argument
   row = argumentAt arguments (call .«first_argument» + i)
 

@@ -17,7 +17,7 @@ use Rattle.extern_call.specs.Resolved.{resolvedRow}
 use Rattle.extern_call.specs.Gather.{gather, flat}
 use Rattle.extern_call.specs.Rows.{resolvedIn, resolvedArguments}
 use Rattle.extern_call.specs.declared.resolved.ResolvedCallArgument.{ResolvedCallArgument}
-use Rattle.extern_call.specs.declared.call.Call.{Call}
+use Rattle.extern_call.specs.declared.call.ExternCall.{ExternCall}
 use Rattle.extern_call.specs.declared.call.CallResolution.{CallResolution}
 use Rattle.extern_call.specs.declared.call.CallResolution.the-variants.{Resolved, Failed}
 use Rattle.extern_call.proofs.GatherLaws.{flat-append}
@@ -25,13 +25,13 @@ use Rattle.extern_call.proofs.RowLaws.{resolved-width}
 use Rattle.extern_call.proofs.CallLaws.{call-ranges}
 
 -- a CALL all of whose arguments resolve
-pub record Resolvable (regions externs parameters arguments : List ℕ) (x : Instruction) (call : Call) : Type 0 where
+pub record Resolvable (regions externs parameters arguments : List ℕ) (x : Instruction) (call : ExternCall) : Type 0 where
   pub found : findCall externs x ≡ ok call
   pub count : call .«argument_count» ≡ expectedCount call
   pub all : allResolve regions parameters arguments call ≡ true
 
-module _ (regions externs parameters arguments : List ℕ) (x : Instruction) (call : Call) where
-  resolves-by : (o : Outcome Call) → findCall externs x ≡ o
+module _ (regions externs parameters arguments : List ℕ) (x : Instruction) (call : ExternCall) where
+  resolves-by : (o : Outcome ExternCall) → findCall externs x ≡ o
       → (o >>= (λ c. need (isCounted c) argumentCount >> (need (allResolve regions parameters arguments c) argumentErrors >> ok c))) ≡ ok call
       → Resolvable regions externs parameters arguments x call
   unfolding _>>=_
@@ -85,7 +85,7 @@ resolved-as : (r : CallResolution) → isResolved r ≡ true → ResolvedAs r
 resolved-as (Resolved a) e = record { argument = a; resolved = refl }
 resolved-as (Failed f) e = let z : _≡_ {A = ℕ} 0 1 = cc in absurd (omega arith)
 
-module _ (regions parameters arguments : List ℕ) (call : Call) (all : allResolve regions parameters arguments call ≡ true) where
+module _ (regions parameters arguments : List ℕ) (call : ExternCall) (all : allResolve regions parameters arguments call ≡ true) where
   -- each argument resolves
   pub all-resolved : (i : ℕ) → i < call .«argument_count» → ResolvedAs (resolutionAt regions parameters arguments call i)
   unfolding allResolve

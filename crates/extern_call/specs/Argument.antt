@@ -21,9 +21,3 @@ abbrev pub argumentNames : UnresolvedCallArgument → List ℕ
 argumentNames (Identifier name) = name ∷ []
 argumentNames (Reference name index) = name ∷ []
 argumentNames (Immediate x y) = []
-
--- its index for a scalar: "An identifier for a scalar, or for the return, means index 0"
-abbrev pub argumentIndex : UnresolvedCallArgument → ℕ
-argumentIndex (Identifier name) = 0
-argumentIndex (Reference name index) = index
-argumentIndex (Immediate x y) = 0

@@ -18,7 +18,7 @@ use Rattle.extern_call.specs.Resolve.{resolveArgument, resolveReturn}
 use Rattle.extern_call.specs.declared.resolve.Resolution.{Resolution}
 use Rattle.extern_call.specs.declared.resolve.Resolution.the-variants as N
 use Rattle.extern_call.specs.declared.error.CallArgumentError.the-variants as E
-use Rattle.extern_call.specs.declared.call.Call.{Call}
+use Rattle.extern_call.specs.declared.call.ExternCall.{ExternCall}
 use Rattle.extern_call.specs.declared.call.FoundCall.{FoundCall}
 use Rattle.extern_call.specs.declared.call.FoundCall.the-variants as F
 use Rattle.extern_call.specs.declared.call.Place.{Place}
@@ -29,7 +29,7 @@ use Rattle.extern_call.specs.declared.call.CallAnswer.{CallAnswer}
 use Rattle.extern_call.specs.declared.call.CallAnswer.the-variants as A
 
 -- "9 call: words 3 to 5 are extern name, first argument, count." With the extern's "return kind .., first parameter row, parameter count".
-abbrev pub callOf : Extern → Instruction → Call
+abbrev pub callOf : Extern → Instruction → ExternCall
 callOf signature x =
     record {
       «return_kind» = signature .«return_kind»;
@@ -44,25 +44,25 @@ abbrev pub foundExtern : Found → Outcome ℕ
 foundExtern (At row) = ok row
 foundExtern Nothing = refuse externNotFound
 
-unfoldable pub findCall : List ℕ → Instruction → Outcome Call
+unfoldable pub findCall : List ℕ → Instruction → Outcome ExternCall
 findCall externs x = do
   row ← foundExtern (lookupExtern externs (x .«first_name»))
   ok (callOf (externAt externs row) x)
 
-abbrev pub foundCall : FoundCall → Outcome Call
+abbrev pub foundCall : FoundCall → Outcome ExternCall
 foundCall (F.At call) = ok call
 foundCall F.Nothing = refuse externNotFound
 
 -- "parameters plus one for a return kind"
-unfoldable pub expectedCount : Call → ℕ
+unfoldable pub expectedCount : ExternCall → ℕ
 expectedCount call = cond (eqb (call .«return_kind») noReturn) (call .«parameter_count») (call .«parameter_count» + 1)
 
 -- "The argument count must equal parameters plus one for a return kind."
-abbrev pub isCounted : Call → Bool
+abbrev pub isCounted : ExternCall → Bool
 isCounted call = eqb (call .«argument_count») (expectedCount call)
 
 -- Argument i is the return's where there is a return kind and i is 0, else a parameter's; a parameter's place does not count the return.
-unfoldable pub placeOf : Call → ℕ → Place
+unfoldable pub placeOf : ExternCall → ℕ → Place
 placeOf call i =
     cond (eqb (call .«return_kind») noReturn) (Parameter i)
     (cond (eqb i 0) Return (Parameter (i - 1)))
@@ -77,7 +77,7 @@ ofParameter index (N.Resolved a) = Resolved a
 ofParameter index (N.Failed error) = Failed (E.Argument index error)
 
 -- what the argument i of a CALL resolves to
-module _ (regions parameters arguments : List ℕ) (call : Call) where
+module _ (regions parameters arguments : List ℕ) (call : ExternCall) where
   abbrev pub resolutionFor : ℕ → Place → CallResolution
   resolutionFor i Return =
       ofReturn (resolveReturn regions (argumentAt arguments (call .«first_argument» + i)) (call .«return_kind»))
@@ -93,17 +93,17 @@ isResolved (Resolved a) = true
 isResolved (Failed e) = false
 
 -- whether every argument of the CALL resolves
-unfoldable pub allResolve : List ℕ → List ℕ → List ℕ → Call → Bool
+unfoldable pub allResolve : List ℕ → List ℕ → List ℕ → ExternCall → Bool
 allResolve regions parameters arguments call =
     every (λ i. isResolved (resolutionAt regions parameters arguments call i)) (call .«argument_count»)
 
 -- the answer's cases: the CALL, or the refusal's number
-abbrev pub callAnswer : CallAnswer → Outcome Call
+abbrev pub callAnswer : CallAnswer → Outcome ExternCall
 callAnswer (A.Resolves call) = ok call
 callAnswer (A.Refused number) = refuse number
 
 -- "a call: 6, 7, 8 (number only)"
-unfoldable pub resolvesCall : List ℕ → List ℕ → List ℕ → List ℕ → Instruction → Outcome Call
+unfoldable pub resolvesCall : List ℕ → List ℕ → List ℕ → List ℕ → Instruction → Outcome ExternCall
 resolvesCall regions externs parameters arguments x = do
   call ← findCall externs x
   need (isCounted call) argumentCount
@@ -117,17 +117,17 @@ pub record CallRanges (externs parameters arguments : List ℕ) (x : Instruction
       → externAt externs k .«first_parameter» + externAt externs k .«parameter_count» ≤ parameterRows parameters
 
 -- the same of a CALL whose extern is found
-pub record Ranges (parameters arguments : List ℕ) (call : Call) : Type 0 where
+pub record Ranges (parameters arguments : List ℕ) (call : ExternCall) : Type 0 where
   pub argumentRange : call .«first_argument» + call .«argument_count» ≤ argumentRows arguments
   pub parameterRange : call .«first_parameter» + call .«parameter_count» ≤ parameterRows parameters
 
 -- of one whose count is right
-pub record Counted (parameters arguments : List ℕ) (call : Call) : Type 0 where
+pub record Counted (parameters arguments : List ℕ) (call : ExternCall) : Type 0 where
   pub ranges : Ranges parameters arguments call
   pub count : call .«argument_count» ≡ expectedCount call
 
 -- of an argument that is the return's or a parameter's
-pub record Paired (parameters arguments : List ℕ) (call : Call) (i : ℕ) : Type 0 where
+pub record Paired (parameters arguments : List ℕ) (call : ExternCall) (i : ℕ) : Type 0 where
   pub ranges : Ranges parameters arguments call
   pub argument : i < call .«argument_count»
   pub wanted : i < expectedCount call

@@ -4,5 +4,6 @@ pub mod Errors
 pub mod Resolved
 pub mod Resolve
 pub mod Gather
+pub mod Inner
 pub mod Call
 pub mod Rows

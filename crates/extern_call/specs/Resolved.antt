@@ -8,14 +8,3 @@ abbrev pub resolvedRow : ResolvedCallArgument → List ℕ
 resolvedRow (Vector name v mutable) = 0 ∷ name ∷ v .kind ∷ v .length ∷ mutable ∷ []
 resolvedRow (MemoryReference name index kind mutable) = 1 ∷ name ∷ index ∷ kind ∷ mutable ∷ []
 resolvedRow (Immediate real imaginary kind) = 2 ∷ real ∷ imaginary ∷ kind ∷ 0 ∷ []
-
--- the name and the mutable word of a resolved argument
-abbrev pub resolvedName : ResolvedCallArgument → ℕ
-resolvedName (Vector name v mutable) = name
-resolvedName (MemoryReference name index kind mutable) = name
-resolvedName (Immediate real imaginary kind) = 0
-
-abbrev pub resolvedMutable : ResolvedCallArgument → ℕ
-resolvedMutable (Vector name v mutable) = mutable
-resolvedMutable (MemoryReference name index kind mutable) = mutable
-resolvedMutable (Immediate real imaginary kind) = 0

@@ -1,6 +1,5 @@
 -- A CALL resolved into lent rows. 01, Order: "Resolve: 1, 2, 3, 6, 7, 4 (7 words an argument), 8."
-use Prim.Native.Nat.{ℕ, _+_, _*_}
-use mathlib.Core.Path.{_≡_}
+use Prim.Native.Nat.{ℕ, _*_}
 use mathlib.Core.Bool.{cond}
 use mathlib.Core.List.{List, [], _∷_}
 use lib.Dec.{leb}
@@ -15,7 +14,7 @@ use Rattle.extern_call.specs.Gather.{gather, flat}
 use Rattle.extern_call.specs.Call.{findCall, isCounted, resolutionAt, allResolve}
 use Rattle.extern_call.specs.declared.error.CallArgumentError.{CallArgumentError}
 use Rattle.extern_call.specs.declared.resolved.ResolvedCallArgument.{ResolvedCallArgument}
-use Rattle.extern_call.specs.declared.call.Call.{Call}
+use Rattle.extern_call.specs.declared.call.ExternCall.{ExternCall}
 use Rattle.extern_call.specs.declared.call.CallResolution.{CallResolution}
 use Rattle.extern_call.specs.declared.call.CallResolution.the-variants.{Resolved, Failed}
 use Rattle.extern_call.specs.declared.rows.ResolveAnswer.{ResolveAnswer}
@@ -37,19 +36,14 @@ resolvedIn (Resolved a) = a ∷ []
 resolvedIn (Failed e) = []
 
 -- the ordered list of a CALL's errors
-unfoldable pub errorsOf : List ℕ → List ℕ → List ℕ → Call → List CallArgumentError
+unfoldable pub errorsOf : List ℕ → List ℕ → List ℕ → ExternCall → List CallArgumentError
 errorsOf regions parameters arguments call =
     gather (λ i. errorIn (resolutionAt regions parameters arguments call i)) 0 (call .«argument_count»)
 
 -- its resolved arguments, in order
-unfoldable pub resolvedArguments : List ℕ → List ℕ → List ℕ → Call → List ResolvedCallArgument
+unfoldable pub resolvedArguments : List ℕ → List ℕ → List ℕ → ExternCall → List ResolvedCallArgument
 resolvedArguments regions parameters arguments call =
     gather (λ i. resolvedIn (resolutionAt regions parameters arguments call i)) 0 (call .«argument_count»)
-
--- the items' rows stand in a lent list after `count` rows of that width, and n rows stand there then; nothing else has changed
-pub record Stored {A : Type 0} (row : A → List ℕ) (width count : ℕ) (items : List A) (entry exit : List ℕ) (n : ℕ) : Type 0 where
-  pub total : n ≡ count + length items
-  pub words : exit ≡ sets entry (count * width) (flat row items)
 
 -- what resolve gives: its answer, and the lent rows at exit
 pub record Resolving : Type 0 where
@@ -65,7 +59,7 @@ resolveNumber (A.Refused number) = number
 resolveNumber (A.Errors count) = argumentErrors
 resolveNumber (A.Resolved count) = 0
 
--- how many rows were written, where any may be
+-- how many rows were written, on 0 and on 8
 abbrev pub resolveCount : ResolveAnswer → List ℕ
 resolveCount (A.Refused number) = []
 resolveCount (A.Errors count) = count ∷ []

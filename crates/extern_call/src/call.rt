@@ -19,7 +19,7 @@ use tables::rows::extern_at;
 use tables::rows::parameter_at;
 
 // A CALL with its extern's signature.
-pub struct Call {
+pub struct ExternCall {
     pub return_kind: u64,
     pub first_parameter: usize,
     pub parameter_count: usize,
@@ -29,7 +29,7 @@ pub struct Call {
 
 // Whether a CALL's extern is there.
 pub enum FoundCall {
-    At(Call),
+    At(ExternCall),
     Nothing,
 }
 
@@ -47,7 +47,7 @@ pub enum CallResolution {
 
 // A CALL that resolves, or the refusal.
 pub enum CallAnswer {
-    Resolves(Call),
+    Resolves(ExternCall),
     Refused(u64),
 }
 
@@ -59,7 +59,7 @@ pub fn find_call(externs: &[u64], x: Instruction) -> FoundCall
         return FoundCall::Nothing;
     };
     let signature = extern_at(externs, row);
-    FoundCall::At(Call {
+    FoundCall::At(ExternCall {
         return_kind: signature.return_kind,
         first_parameter: signature.first_parameter as usize,
         parameter_count: signature.parameter_count as usize,
@@ -69,7 +69,7 @@ pub fn find_call(externs: &[u64], x: Instruction) -> FoundCall
 }
 
 // How many arguments the signature takes.
-pub fn expected_count(call: Call) -> usize
+pub fn expected_count(call: ExternCall) -> usize
     requires { ⌜ call .«parameter_count» + 1 < 2 ^ 64 ⌝ }
     ensures { λ r. ⌜ r ≡ expectedCount call ⌝ }
 {
@@ -80,7 +80,7 @@ pub fn expected_count(call: Call) -> usize
 }
 
 // Whose argument i is; a parameter's place does not count the return.
-pub fn place_of(call: Call, i: usize) -> Place
+pub fn place_of(call: ExternCall, i: usize) -> Place
     ensures { λ r. ⌜ r ≡ placeOf call i ⌝ }
 {
     if call.return_kind == NO_RETURN {
@@ -118,7 +118,7 @@ pub fn resolve_at(
     regions: &[u64],
     parameters: &[u64],
     arguments: &[u64],
-    call: Call,
+    call: ExternCall,
     i: usize,
 ) -> CallResolution
     requires { ⌜ Paired (now parameters) (now arguments) call i ⌝ }
@@ -136,7 +136,7 @@ pub fn resolve_at(
 }
 
 // Whether every argument of a CALL with the right count resolves.
-pub fn all_resolve(regions: &[u64], parameters: &[u64], arguments: &[u64], call: Call) -> bool
+pub fn all_resolve(regions: &[u64], parameters: &[u64], arguments: &[u64], call: ExternCall) -> bool
     requires { ⌜ Counted (now parameters) (now arguments) call ⌝ }
     ensures { λ r. ⌜ r ≡ allResolve (now (regions .entry)) (now (parameters .entry)) (now (arguments .entry)) call ⌝ }
 {

@@ -6,9 +6,10 @@ ghost use lib.Seq.{sets};
 ghost use Rattle.extern_call.specs.Errors.{errorRow};
 ghost use Rattle.extern_call.specs.Resolved.{resolvedRow};
 ghost use Rattle.extern_call.specs.Call.{Counted, CallRanges};
-ghost use Rattle.extern_call.specs.Rows.{errorIn, resolvedIn, Stored, errorsOf, resolvedArguments, errorWidth, resolvedWidth, resolving, resolveCall};
-use crate::call::Call;
+ghost use Rattle.extern_call.specs.Inner.{Stored};
+ghost use Rattle.extern_call.specs.Rows.{errorIn, resolvedIn, errorsOf, resolvedArguments, errorWidth, resolvedWidth, resolving, resolveCall};
 use crate::call::CallResolution;
+use crate::call::ExternCall;
 use crate::call::FoundCall;
 use crate::call::all_resolve;
 use crate::call::expected_count;
@@ -22,9 +23,9 @@ use tables::refusal::EXTERN_NOT_FOUND;
 use tables::rows::Instruction;
 
 // Words in a row of each kind.
-pub const ERROR_WIDTH: usize = 7;
+const ERROR_WIDTH: usize = 7;
 
-pub const RESOLVED_WIDTH: usize = 5;
+const RESOLVED_WIDTH: usize = 5;
 
 pub enum ResolveAnswer {
     Refused(u64),
@@ -76,7 +77,7 @@ fn write_errors(
     regions: &[u64],
     parameters: &[u64],
     arguments: &[u64],
-    call: Call,
+    call: ExternCall,
     rows: &mut [u64],
 ) -> usize
     requires { ⌜ Counted (now parameters) (now arguments) call × (errorWidth * call .«argument_count» ≤ length (now rows)) ⌝ }
@@ -98,7 +99,7 @@ fn write_resolved(
     regions: &[u64],
     parameters: &[u64],
     arguments: &[u64],
-    call: Call,
+    call: ExternCall,
     rows: &mut [u64],
 ) -> usize
     requires { ⌜ Counted (now parameters) (now arguments) call × (errorWidth * call .«argument_count» ≤ length (now rows)) ⌝ }

@@ -11,7 +11,7 @@ use Rattle.tables.proofs.FirstLaws.{never}
 use Rattle.tables.specs.Rows.{nodeRows, nodeTag}
 use Rattle.tables.specs.Tree.{arityOf, treesFrom, inside, oneTree}
 use Rattle.tables.proofs.TreeLaws.{arity-le, inside-le}
-use Rattle.memory.specs.References.{isAddress, referenceAt, Walked, treeAt, references, addresses}
+use Rattle.memory.specs.References.{isAddress, referenceAt, Walked, treeAt, references, rowReferences}
 use Rattle.memory.specs.declared.MemoryReference.{MemoryReference}
 
 both : (a b : Bool) → (a && b) ≡ true → (a ≡ true) × (b ≡ true)
@@ -32,16 +32,16 @@ cond-append true x l m = refl
 cond-append false x l m = refl
 
 -- the addresses of two ranges, one after the other
-addresses-append : (nodes : List ℕ) (i m n : ℕ) → addresses nodes i (m + n) ≡ addresses nodes i m ++ addresses nodes (i + m) n
-unfolding addresses
-addresses-append nodes i zero n =
+row-references-append : (nodes : List ℕ) (i m n : ℕ) → rowReferences nodes i (m + n) ≡ rowReferences nodes i m ++ rowReferences nodes (i + m) n
+unfolding rowReferences
+row-references-append nodes i zero n =
     let e : zero + n ≡ n = omega arith in
     let d : i + zero ≡ i = omega arith in
     rw (e, d)
-addresses-append nodes i (suc m) n =
+row-references-append nodes i (suc m) n =
     let e : suc m + n ≡ suc (m + n) = omega arith in
     let d : i + suc m ≡ i + 1 + m = omega arith in
-    rw (e, d, addresses-append nodes (i + 1) m n) (cond-append (isAddress nodes i) (referenceAt nodes i) _ _)
+    rw (e, d, row-references-append nodes (i + 1) m n) (cond-append (isAddress nodes i) (referenceAt nodes i) _ _)
 
 -- an address has no children
 inner : (tag a : ℕ) → arityOf tag ≡ suc a → eqb tag 0 ≡ false
@@ -52,14 +52,14 @@ inner tag a e = ne-eqb tag 0 (λ z. let h : _≡_ {A = ℕ} 0 (suc a) = ap arity
 record Cut (nodes : List ℕ) (k i n f : ℕ) : Type 0 where
   m : ℕ
   within : m ≤ n
-  tree : treeAt nodes i f ≡ record { references = addresses nodes i m; after = i + m }
+  tree : treeAt nodes i f ≡ record { references = rowReferences nodes i m; after = i + m }
   others : treesFrom nodes k (i + m) (n - m) ≡ true
 
 abbrev Cuts : List ℕ → ℕ → Type 0
 Cuts nodes f = (n k i : ℕ) → n ≤ f → treesFrom nodes (suc k) i n ≡ true → Cut nodes k i n f
 
 cut-root : (nodes : List ℕ) (f n k i : ℕ) → Cuts nodes f → n ≤ f → (a : ℕ) → arityOf (nodeTag nodes i) ≡ a → treesFrom nodes (k + a) (i + 1) n ≡ true → Cut nodes k i (suc n) (suc f)
-unfolding treeAt addresses
+unfolding treeAt rowReferences
 cut-root nodes f n k i ih h zero e t =
     record {
       m = 1;
@@ -89,7 +89,7 @@ cut-root nodes f n k i ih h (suc (suc zero)) e t =
     record {
       m = suc (c .m + d .m);
       within = omega arith;
-      tree = rw (e, inner (nodeTag nodes i) 1 e, p, addresses-append nodes (i + 1) (c .m) (d .m), c .tree, d .tree);
+      tree = rw (e, inner (nodeTag nodes i) 1 e, p, row-references-append nodes (i + 1) (c .m) (d .m), c .tree, d .tree);
       others = let z : suc n - suc (c .m + d .m) ≡ n - c .m - d .m = omega arith in rw (p, z) (d .others);
     }
 cut-root nodes f n k i ih h (suc (suc (suc a))) e t = let l : arityOf (nodeTag nodes i) ≤ 2 = arity-le (nodeTag nodes i) in absurd (omega arith)
@@ -117,11 +117,11 @@ none-left nodes i zero e = refl
 none-left nodes i (suc n) e = never e
 
 -- THE LAW: rows that are exactly one tree have its references, left to right, as their addresses in row order
-pub references-addresses : (nodes : List ℕ) (i n : ℕ) → oneTree nodes i n ≡ true → references nodes i n ≡ addresses nodes i n
+pub references-by-row : (nodes : List ℕ) (i n : ℕ) → oneTree nodes i n ≡ true → references nodes i n ≡ rowReferences nodes i n
 unfolding references
-references-addresses nodes i n e =
+references-by-row nodes i n e =
     let c : Cut nodes 0 i n n = cut nodes n n 0 i (omega arith) (parts nodes i n e .1) in
     let q : c .m ≤ n = c .within in
     let z : n - c .m ≡ 0 = none-left nodes (i + c .m) (n - c .m) (c .others) in
     let s : c .m ≡ n = omega arith in
-    ap (λ (w : Walked). w .references) (c .tree) ∙ ap (addresses nodes i) s
+    ap (λ (w : Walked). w .references) (c .tree) ∙ ap (rowReferences nodes i) s

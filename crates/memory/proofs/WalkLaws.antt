@@ -9,48 +9,43 @@ use lib.Seq.{getD-take, getD-drop}
 use Rattle.tables.specs.First.{first}
 use Rattle.tables.specs.Rows.{nodeRows}
 use Rattle.tables.specs.Tree.{oneTree}
-use Rattle.memory.specs.References.{isAddress, referenceAt, references, addresses, handedOut, ended, nextFrom, nextOf, nodesIn, nextIn}
+use Rattle.memory.specs.References.{isAddress, referenceAt, references, rowReferences, handedOut, ended, nextFrom, nextOf, nodesIn, nextIn}
 use Rattle.memory.specs.Walk.{kthCall, kthOf, Walk}
 use Rattle.memory.specs.declared.MemoryReference.{MemoryReference}
 use Rattle.memory.specs.declared.Next.{Next}
 use Rattle.memory.specs.declared.Next.the-variants.{Reference, End}
 use Rattle.memory.specs.declared.Stepped.{Stepped}
-use Rattle.memory.proofs.ReferenceLaws.{one-tree-inside, references-addresses}
+use Rattle.memory.proofs.ReferenceLaws.{one-tree-inside, references-by-row}
 
 -- the addresses at or after a place
 abbrev rest : List ℕ → ℕ → List MemoryReference
-rest nodes place = addresses nodes place (nodeRows nodes - place)
+rest nodes place = rowReferences nodes place (nodeRows nodes - place)
 
 -- what a step says of the addresses at or after the place that it was made from
 abbrev told : List ℕ → Next → ℕ → List MemoryReference
 told nodes (Reference r) place = r ∷ rest nodes place
 told nodes End place = []
 
--- a step from row i, where these addresses are left: the first of them, and where it leads, to the end past the rows, or else on and within them
-record Step (nodes : List ℕ) (i : ℕ) (left : List MemoryReference) (s : Stepped) : Type 0 where
+-- a step where these addresses are left: it hands out the first of them, and leads past the rows where there is none
+record Step (nodes : List ℕ) (left : List MemoryReference) (s : Stepped) : Type 0 where
   says : left ≡ told nodes (s .found) (s .place)
   over : s .found ≡ End → s ≡ ended nodes
-  on : (s .found ≡ End → ⊥) → i < s .place
-  within : s .place ≤ nodeRows nodes
 
-step-or-skip : (nodes : List ℕ) (b : Bool) (i n : ℕ) (s : Stepped) → suc n ≡ nodeRows nodes - i → Step nodes (i + 1) (addresses nodes (i + 1) n) s
-    → Step nodes i (cond b (referenceAt nodes i ∷ addresses nodes (i + 1) n) (addresses nodes (i + 1) n)) (cond b (handedOut nodes i) s)
+step-or-skip : (nodes : List ℕ) (b : Bool) (i n : ℕ) (s : Stepped) → suc n ≡ nodeRows nodes - i → Step nodes (rowReferences nodes (i + 1) n) s
+    → Step nodes (cond b (referenceAt nodes i ∷ rowReferences nodes (i + 1) n) (rowReferences nodes (i + 1) n)) (cond b (handedOut nodes i) s)
 step-or-skip nodes true i n s h l =
     record {
-      says = let e : n ≡ nodeRows nodes - (i + 1) = omega arith in ap (λ (k : ℕ). referenceAt nodes i ∷ addresses nodes (i + 1) k) e;
+      says = let e : n ≡ nodeRows nodes - (i + 1) = omega arith in ap (λ (k : ℕ). referenceAt nodes i ∷ rowReferences nodes (i + 1) k) e;
       over = λ e. let z : _≡_ {A = ℕ} 0 1 = cc in absurd (omega arith);
-      on = λ e. omega arith;
-      within = omega arith;
     }
-step-or-skip nodes false i n s h l =
-    record { says = l .says; over = l .over; on = λ e. let k : i + 1 < s .place = l .on e in omega arith; within = l .within }
+step-or-skip nodes false i n s h l = l
 
-step-from : (nodes : List ℕ) (i n : ℕ) → n ≡ nodeRows nodes - i → Step nodes i (addresses nodes i n) (nextFrom nodes i n)
-unfolding first addresses
-step-from nodes i zero h = record { says = refl; over = λ e. refl; on = λ e. absurd (e refl); within = omega arith }
+step-from : (nodes : List ℕ) (i n : ℕ) → n ≡ nodeRows nodes - i → Step nodes (rowReferences nodes i n) (nextFrom nodes i n)
+unfolding first rowReferences
+step-from nodes i zero h = record { says = refl; over = λ e. refl }
 step-from nodes i (suc n) h = step-or-skip nodes (isAddress nodes i) i n (nextFrom nodes (i + 1) n) h (step-from nodes (i + 1) n (omega arith))
 
-next-step : (nodes : List ℕ) (place : ℕ) → Step nodes place (rest nodes place) (nextOf nodes place)
+next-step : (nodes : List ℕ) (place : ℕ) → Step nodes (rest nodes place) (nextOf nodes place)
 unfolding nextOf
 next-step nodes place = step-from nodes place (nodeRows nodes - place) refl
 
@@ -61,16 +56,16 @@ told-first nodes (Reference r) p = refl
 told-first nodes End p = refl
 
 told-later : (nodes : List ℕ) (s : Next) (p k : ℕ) → (s ≡ End → p ≡ nodeRows nodes) → kthOf (rest nodes p) k ≡ kthOf (told nodes s p) (suc k)
-unfolding kthOf addresses
+unfolding kthOf rowReferences
 told-later nodes (Reference r) p k h = refl
 told-later nodes End p k h = let e : p ≡ nodeRows nodes = h refl in let z : nodeRows nodes - p ≡ 0 = omega arith in rw z
 
 -- the k-th call hands out the k-th address at or after the place, and past the last the end
-calls-addresses : (nodes : List ℕ) (place k : ℕ) → kthCall (nextOf nodes) place k ≡ kthOf (rest nodes place) k
+calls-by-row : (nodes : List ℕ) (place k : ℕ) → kthCall (nextOf nodes) place k ≡ kthOf (rest nodes place) k
 unfolding kthCall
-calls-addresses nodes place zero = told-first nodes (nextOf nodes place .found) (nextOf nodes place .place) ∙ ap (λ l. kthOf l 0) (sym (next-step nodes place .says))
-calls-addresses nodes place (suc k) =
-    calls-addresses nodes (nextOf nodes place .place) k ∙
+calls-by-row nodes place zero = told-first nodes (nextOf nodes place .found) (nextOf nodes place .place) ∙ ap (λ l. kthOf l 0) (sym (next-step nodes place .says))
+calls-by-row nodes place (suc k) =
+    calls-by-row nodes (nextOf nodes place .place) k ∙
     (told-later nodes (nextOf nodes place .found) (nextOf nodes place .place) k (λ e. ap (λ (s : Stepped). s .place) (next-step nodes place .over e)) ∙
     ap (λ l. kthOf l (suc k)) (sym (next-step nodes place .says)))
 
@@ -78,10 +73,10 @@ word-in : (nodes : List ℕ) (i n w : ℕ) → w < n * 3 → getD (nodesIn nodes
 word-in nodes i n w h = rw (getD-take, getD-drop)
 
 -- row k of the part is row i + k of the table
-addresses-in : (nodes : List ℕ) (i n k m : ℕ) → k + m ≤ n → addresses (nodesIn nodes i n) k m ≡ addresses nodes (i + k) m
-unfolding addresses
-addresses-in nodes i n k zero h = refl
-addresses-in nodes i n k (suc m) h =
+row-references-in : (nodes : List ℕ) (i n k m : ℕ) → k + m ≤ n → rowReferences (nodesIn nodes i n) k m ≡ rowReferences nodes (i + k) m
+unfolding rowReferences
+row-references-in nodes i n k zero h = refl
+row-references-in nodes i n k (suc m) h =
     let a : k * 3 < n * 3 = omega arith in
     let b : k * 3 + 1 < n * 3 = omega arith in
     let c : k * 3 + 2 < n * 3 = omega arith in
@@ -89,13 +84,7 @@ addresses-in nodes i n k (suc m) h =
     let e : i * 3 + (k * 3 + 1) ≡ (i + k) * 3 + 1 = omega arith in
     let f : i * 3 + (k * 3 + 2) ≡ (i + k) * 3 + 2 = omega arith in
     let g : i + (k + 1) ≡ i + k + 1 = omega arith in
-    rw (word-in nodes i n (k * 3) a, word-in nodes i n (k * 3 + 1) b, word-in nodes i n (k * 3 + 2) c, addresses-in nodes i n (k + 1) m (omega arith), d, e, f, g)
-
--- a call from a place in the tree that handed r out: it leads on, within the tree, and r is the first of the addresses that were left
-pub record HandsOut (nodes : List ℕ) (i n place : ℕ) (r : MemoryReference) (after : ℕ) : Type 0 where
-  pub on : place < after
-  pub within : after ≤ n
-  pub left : addresses nodes (i + place) (n - place) ≡ r ∷ addresses nodes (i + after) (n - after)
+    rw (word-in nodes i n (k * 3) a, word-in nodes i n (k * 3 + 1) b, word-in nodes i n (k * 3 + 2) c, row-references-in nodes i n (k + 1) m (omega arith), d, e, f, g)
 
 module _ (nodes : List ℕ) (i n : ℕ) (one : oneTree nodes i n ≡ true) where
   -- the part has as many rows as the tree
@@ -105,54 +94,38 @@ module _ (nodes : List ℕ) (i n : ℕ) (one : oneTree nodes i n ≡ true) where
       let e : length (nodesIn nodes i n) ≡ n * 3 = simp (length-take, length-drop) (omega arith) in
       omega arith
 
-  rest-in : (place : ℕ) → place ≤ n → rest (nodesIn nodes i n) place ≡ addresses nodes (i + place) (n - place)
-  rest-in place h = rw rows-in (addresses-in nodes i n place (n - place) (omega arith))
+  rest-in : (place : ℕ) → place ≤ n → rest (nodesIn nodes i n) place ≡ rowReferences nodes (i + place) (n - place)
+  rest-in place h = rw rows-in (row-references-in nodes i n place (n - place) (omega arith))
 
   all-in : rest (nodesIn nodes i n) 0 ≡ references nodes i n
   all-in =
       let d : n - 0 ≡ n = omega arith in
       let z : i + 0 ≡ i = omega arith in
-      rest-in 0 (omega arith) ∙ rw (d, z) (sym (references-addresses nodes i n one))
+      rest-in 0 (omega arith) ∙ rw (d, z) (sym (references-by-row nodes i n one))
 
   calls-references : (k : ℕ) → kthCall (nextIn nodes i n) 0 k ≡ kthOf (references nodes i n) k
   unfolding nextIn
-  calls-references k = calls-addresses (nodesIn nodes i n) 0 k ∙ ap (λ l. kthOf l k) all-in
+  calls-references k = calls-by-row (nodesIn nodes i n) 0 k ∙ ap (λ l. kthOf l k) all-in
 
   -- a place past the tree is the end
-  pub past-tree : (place : ℕ) → n ≤ place → nextIn nodes i n place ≡ record { found = End; place = n }
+  past-tree : (place : ℕ) → n ≤ place → nextIn nodes i n place ≡ record { found = End; place = n }
   unfolding nextIn nextOf first
   past-tree place h = let z : nodeRows (nodesIn nodes i n) - place ≡ 0 = omega (arith, rows-in) in rw (z, rows-in)
 
   module _ (place : ℕ) (s : Stepped) (e : s ≡ nextIn nodes i n place) where
-    step-in : Step (nodesIn nodes i n) place (rest (nodesIn nodes i n) place) s
+    step-in : Step (nodesIn nodes i n) (rest (nodesIn nodes i n) place) s
     unfolding nextIn
     step-in = rw e (next-step (nodesIn nodes i n) place)
 
     -- an end for good: the call after it gives the same again
-    pub end-for-good : s .found ≡ End → nextIn nodes i n (s .place) ≡ s
+    end-for-good : s .found ≡ End → nextIn nodes i n (s .place) ≡ s
     end-for-good f = rw (step-in .over f) (past-tree (nodeRows (nodesIn nodes i n)) (omega (arith, rows-in)) ∙ rw rows-in)
-
-    said : place ≤ n → (f : Next) → s .found ≡ f → addresses nodes (i + place) (n - place) ≡ told (nodesIn nodes i n) f (s .place)
-    said h f g = sym (rest-in place h) ∙ (step-in .says ∙ ap (λ (f : Next). told (nodesIn nodes i n) f (s .place)) g)
-
-    -- and no address was left
-    pub none-left : place ≤ n → s .found ≡ End → addresses nodes (i + place) (n - place) ≡ []
-    none-left h f = said h End f
-
-    pub hands-out : place ≤ n → (r : MemoryReference) → s .found ≡ Reference r → HandsOut nodes i n place r (s .place)
-    hands-out h r f =
-        let w : s .place ≤ n = omega (arith, rows-in, step-in .within) in
-        record {
-          on = step-in .on (λ z. let y : _≡_ {A = ℕ} 0 1 = cc in omega arith);
-          within = w;
-          left = said h (Reference r) f ∙ ap (λ l. r ∷ l) (rest-in (s .place) w);
-        }
 
   -- THE WALK of Walk.antt, of a range that is exactly one tree
   pub tree-walk : Walk nodes i n
   tree-walk =
       record {
-        order = references-addresses nodes i n one;
+        order = references-by-row nodes i n one;
         calls = calls-references;
         end = λ place f. end-for-good place (nextIn nodes i n place) refl f;
       }

@@ -49,11 +49,11 @@ treeAt nodes i (suc n) = byArity (arityOf (nodeTag nodes i)) (leaf nodes i) (tre
 unfoldable pub references : List ℕ → ℕ → ℕ → List MemoryReference
 references nodes i n = treeAt nodes i n .references
 
--- the addresses among the n rows from row i on, in row order: of exactly one tree they are its references (Walk.antt)
-unfoldable pub addresses : List ℕ → ℕ → ℕ → List MemoryReference
-addresses nodes i zero = []
-addresses nodes i (suc n) =
-    cond (isAddress nodes i) (referenceAt nodes i ∷ addresses nodes (i + 1) n) (addresses nodes (i + 1) n)
+-- the references that are addresses among the n rows from row i on, in row order: of exactly one tree they are its references (Walk.antt)
+unfoldable pub rowReferences : List ℕ → ℕ → ℕ → List MemoryReference
+rowReferences nodes i zero = []
+rowReferences nodes i (suc n) =
+    cond (isAddress nodes i) (referenceAt nodes i ∷ rowReferences nodes (i + 1) n) (rowReferences nodes (i + 1) n)
 
 -- row i is handed out, and the place is after it
 abbrev pub handedOut : List ℕ → ℕ → Stepped

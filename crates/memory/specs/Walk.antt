@@ -2,7 +2,7 @@
 use Prim.Native.Nat.{ℕ, zero, suc}
 use mathlib.Core.List.{List, [], _∷_}
 use mathlib.Core.Path.{_≡_}
-use Rattle.memory.specs.References.{references, addresses, nextIn}
+use Rattle.memory.specs.References.{references, rowReferences, nextIn}
 use Rattle.memory.specs.declared.MemoryReference.{MemoryReference}
 use Rattle.memory.specs.declared.Next.{Next}
 use Rattle.memory.specs.declared.Next.the-variants.{Reference, End}
@@ -22,7 +22,7 @@ kthOf (r ∷ rs) (suc k) = kthOf rs k
 -- of the n rows from row i on
 pub record Walk (nodes : List ℕ) (i n : ℕ) : Type 0 where
   -- "left to right" is the order of the rows: "A parent precedes its children, left first"
-  pub order : references nodes i n ≡ addresses nodes i n
+  pub order : references nodes i n ≡ rowReferences nodes i n
   -- the k-th call from place 0 hands out the tree's k-th reference, and past the last the end
   pub calls : (k : ℕ) → kthCall (nextIn nodes i n) 0 k ≡ kthOf (references nodes i n) k
   -- "an end for good": from wherever the end was told, the next call tells it again and stays

@@ -76,7 +76,7 @@ impl<'a> MemoryReferences<'a> {
 }
 
 // One step of a reader at the place. Its parameters are plain, so its callers' proofs are no walks by hand.
-pub fn next_from(nodes: &[u64], place: usize) -> Stepped
+fn next_from(nodes: &[u64], place: usize) -> Stepped
     ensures { λ r. ⌜ r ≡ nextOf (now (nodes .entry)) place ⌝ }
 {
     let mut reader = MemoryReferences::new(nodes, place);

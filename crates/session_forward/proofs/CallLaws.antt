@@ -13,7 +13,7 @@ use Rattle.tables.specs.declared.rows.Instruction.{Instruction}
 use Rattle.loader.proofs.Loaded.{both}
 use Rattle.tables.proofs.LookupLaws.{region-row}
 use Rattle.extern_call.specs.Call.{CallRanges, resolutionAt}
-use Rattle.extern_call.specs.declared.call.Call.{Call}
+use Rattle.extern_call.specs.declared.call.ExternCall.{ExternCall}
 use Rattle.extern_call.specs.declared.call.CallResolution.{CallResolution}
 use Rattle.extern_call.specs.declared.call.CallResolution.the-variants as C
 use Rattle.extern_call.specs.declared.resolved.ResolvedCallArgument.the-variants.{Vector, MemoryReference, Immediate}
@@ -28,7 +28,7 @@ use Rattle.operands.proofs.Reaches.{in-cells}
 use Rattle.call_reply.proofs.ReplyLaws.{Judged, judged-ok, judged-replied, replied-hit}
 use Rattle.session_forward.specs.Step.{Replying}
 
-module _ (regions parameters arguments : List ℕ) (call : Call) where
+module _ (regions parameters arguments : List ℕ) (call : ExternCall) where
   -- ---- the cell that a row hits
   cell-below : (i : ℕ) (y : Reply) (r : CallResolution) → resolutionAt regions parameters arguments call i ≡ r
       → HitWithin regions (y .offset) r → ofResolved (hits y) false r ≡ true → ofResolved (cellHit regions (y .offset)) 0 r < cellCount regions
@@ -67,7 +67,7 @@ module _ (regions parameters arguments : List ℕ) (call : Call) where
   replies-none reply rows k h = let e : rows - k ≡ 0 = omega arith in ap (replyWritesFrom regions parameters arguments call reply k) e
 
 -- a CALL whose reply was judged
-pub judged-replying : {regions externs parameters arguments : List ℕ} {x : Instruction} {cells reply : List ℕ} {call : Call}
+pub judged-replying : {regions externs parameters arguments : List ℕ} {x : Instruction} {cells reply : List ℕ} {call : ExternCall}
     → Layout regions cells → CallRanges externs parameters arguments x → callJudged regions externs parameters arguments x reply ≡ ok call
     → Replying regions parameters arguments call cells reply
 unfolding replyFits replyLengthFits

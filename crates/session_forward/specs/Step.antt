@@ -13,7 +13,7 @@ use Rattle.tables.specs.Rows.{instructionLimit, instructionRows, instructionAt}
 use Rattle.loader.specs.Instruction.{formAllowed}
 use Rattle.tables.specs.declared.rows.Instruction.{Instruction}
 use Rattle.extern_call.specs.Call.{CallRanges}
-use Rattle.extern_call.specs.declared.call.Call.{Call}
+use Rattle.extern_call.specs.declared.call.ExternCall.{ExternCall}
 use Rattle.journal.specs.declared.cells.Write.{Write}
 use Rattle.journal.specs.declared.position.Position.{Position}
 use Rattle.journal.specs.Position.{rowOf}
@@ -75,7 +75,7 @@ pub record RowReady (regions externs parameters arguments : List ℕ) (x : Instr
   pub placed : Placed journal p
 
 -- a reply that was judged, on the cells of the regions
-pub record Replying (regions parameters arguments : List ℕ) (call : Call) (cells reply : List ℕ) : Type 0 where
+pub record Replying (regions parameters arguments : List ℕ) (call : ExternCall) (cells reply : List ℕ) : Type 0 where
   pub layout : Layout regions cells
   pub row : (k : ℕ) → k < replyRows reply → Replied regions parameters arguments call reply k
   pub few : replyRows reply ≤ 64

@@ -15,8 +15,8 @@ ghost use Rattle.session_forward.specs.Step.{rowLeaves, Placed, Replying
 use call_reply::call::judge_call;
 use call_reply::call::reply_write;
 use call_reply::reply::REPLY_WIDTH;
-use extern_call::call::Call;
 use extern_call::call::CallAnswer;
+use extern_call::call::ExternCall;
 use journal::entries::ENTRY_WIDTH;
 use journal::entries::close;
 use journal::entries::write_cell;
@@ -31,7 +31,7 @@ fn write_row(
     regions: &[u64],
     parameters: &[u64],
     arguments: &[u64],
-    call: Call,
+    call: ExternCall,
     cells: &mut [u64],
     journal: &mut [u64],
     entry: usize,
@@ -51,7 +51,7 @@ fn write_reply(
     regions: &[u64],
     parameters: &[u64],
     arguments: &[u64],
-    call: Call,
+    call: ExternCall,
     cells: &mut [u64],
     journal: &mut [u64],
     used: usize,
@@ -85,7 +85,7 @@ fn reply_step(
     regions: &[u64],
     parameters: &[u64],
     arguments: &[u64],
-    call: Call,
+    call: ExternCall,
     cells: &mut [u64],
     journal: &mut [u64],
     p: Position,

@@ -8,7 +8,7 @@ use Rattle.tables.specs.declared.lookup.Found.{Found}
 use Rattle.tables.specs.declared.lookup.Found.the-variants as L
 use Rattle.tables.specs.declared.rows.Instruction.{Instruction}
 use Rattle.extern_call.specs.Call.{foundExtern, findCall, isCounted, allResolve, resolvesCall}
-use Rattle.extern_call.specs.declared.call.Call.{Call}
+use Rattle.extern_call.specs.declared.call.ExternCall.{ExternCall}
 use Rattle.journal.specs.declared.cells.Write.{Write}
 use Rattle.call_reply.specs.Call as M
 use Rattle.machine.proofs.Ends.{Ends, Ruled, fine, turned, bind, tested}
@@ -21,22 +21,22 @@ found-ends : {R : ℕ → Type 0} → R externNotFound → (f : Found) → Ends 
 found-ends z (L.At row) = fine tt
 found-ends z L.Nothing = turned z
 
-pub find-ends : {R : ℕ → Type 0} (externs : List ℕ) (x : Instruction) → R externNotFound → Ends R (Whatever {A = Call}) (findCall externs x)
+pub find-ends : {R : ℕ → Type 0} (externs : List ℕ) (x : Instruction) → R externNotFound → Ends R (Whatever {A = ExternCall}) (findCall externs x)
 unfolding findCall
 find-ends externs x z = bind (found-ends z (lookupExtern externs (x .«first_name»))) (λ row u. fine tt)
 
 module _ (regions externs parameters arguments : List ℕ) (x : Instruction) where
-  resolves-ends : Ends Ruled (Whatever {A = Call}) (resolvesCall regions externs parameters arguments x)
+  resolves-ends : Ends Ruled (Whatever {A = ExternCall}) (resolvesCall regions externs parameters arguments x)
   unfolding resolvesCall
   resolves-ends =
       bind (find-ends externs x (omega arith)) (λ call u. tested argumentCount (isCounted call) (omega arith) (λ c.
       tested argumentErrors (allResolve regions parameters arguments call) (omega arith) (λ a. fine tt)))
 
-  ready-ends : Ends Ruled (Whatever {A = Call}) (M.callReady regions externs parameters arguments x)
+  ready-ends : Ends Ruled (Whatever {A = ExternCall}) (M.callReady regions externs parameters arguments x)
   unfolding M.callReady
   ready-ends = bind resolves-ends (λ call u. tested indexPastLength (M.scalarsFit regions parameters arguments call) (omega arith) (λ s. fine tt))
 
-  judged-ends : (reply : List ℕ) → Ends Ruled (Whatever {A = Call}) (M.callJudged regions externs parameters arguments x reply)
+  judged-ends : (reply : List ℕ) → Ends Ruled (Whatever {A = ExternCall}) (M.callJudged regions externs parameters arguments x reply)
   unfolding M.callJudged
   judged-ends reply = bind ready-ends (λ call u. tested unfitReply (M.replyFits regions parameters arguments call reply) (omega arith) (λ f. fine tt))
 

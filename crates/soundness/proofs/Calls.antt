@@ -17,13 +17,12 @@ use Rattle.tables.proofs.FirstLaws.{every-row}
 use Rattle.tables.proofs.LookupLaws.{region-row, region-named}
 use Rattle.loader.proofs.Loaded.{both}
 use Rattle.extern_call.specs.Call.{resolutionAt}
-use Rattle.extern_call.specs.Resolved.{resolvedName, resolvedMutable}
-use Rattle.extern_call.specs.declared.call.Call.{Call}
+use Rattle.extern_call.specs.declared.call.ExternCall.{ExternCall}
 use Rattle.extern_call.specs.declared.call.CallResolution.{CallResolution}
 use Rattle.extern_call.specs.declared.call.CallResolution.the-variants as C
 use Rattle.extern_call.specs.declared.resolved.ResolvedCallArgument.{ResolvedCallArgument}
 use Rattle.extern_call.specs.declared.resolved.ResolvedCallArgument.the-variants.{Vector, MemoryReference, Immediate}
-use Rattle.extern_call.proofs.ResolvedLaws.{resolved-facts}
+use Rattle.extern_call.proofs.ResolvedLaws.{resolvedName, resolvedMutable, resolved-facts}
 use Rattle.extern_call.proofs.ResolvesLaws.{Resolvable}
 use Rattle.access_sets.specs.Set.{has}
 use Rattle.access_sets.proofs.PairedLaws.{below-paired}
@@ -92,7 +91,7 @@ module _ (t : Tables) (x : Instruction) (kinds : KindsAllowed (t .regions)) wher
         };
       })
 
-  module _ {call : Call} (v : Resolvable (t .regions) (t .externs) (t .parameters) (t .arguments) x call) where
+  module _ {call : ExternCall} (v : Resolvable (t .regions) (t .externs) (t .parameters) (t .arguments) x call) where
     abbrev resolution : ℕ → CallResolution
     resolution i = resolutionAt (t .regions) (t .parameters) (t .arguments) call i
 
