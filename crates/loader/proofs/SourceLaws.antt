@@ -9,7 +9,7 @@ use borrow.Author.Tests.{leb-true, leb-false, lt-ltb, le-ltb, ne-eqb, eqb-true}
 use Rattle.tables.specs.Source as source
 use Rattle.tables.specs.declared.rows.Instruction.{Instruction}
 use Rattle.tables.specs.Cases.{caseOf}
-use Rattle.loader.specs.Instruction.{upTo, operatorsOf, sourceAllowed, formAllowed, operandsByFamily, operandsAllowed, instructionAllowed}
+use Rattle.loader.specs.Instruction.{upTo, operatorsOf, sourceAllowed, formAllowed, operandWordsByFamily, operandsAllowed, instructionAllowed}
 
 pub up-to : (x last : ℕ) → leb x last ≡ ltb x (upTo last)
 up-to x last = at (leb x last) refl
@@ -75,6 +75,6 @@ form-past f form h =
 
 -- a row of family f, as the match's arm for it tests it
 pub row-of : (nodes : List ℕ) (arguments : ℕ) (x : Instruction) {p q : Bool} (f : ℕ) → x .family ≡ f → p ≡ ltb (x .operator) (operatorsOf f)
-    → q ≡ (formAllowed f (x .«source_form») && (sourceAllowed x && caseOf f (operandsByFamily nodes arguments x) false)) → (p && q) ≡ instructionAllowed nodes arguments x
+    → q ≡ (formAllowed f (x .«source_form») && (sourceAllowed x && caseOf f (operandWordsByFamily nodes arguments x) false)) → (p && q) ≡ instructionAllowed nodes arguments x
 unfolding instructionAllowed operandsAllowed
 row-of nodes arguments x f e a b = rw (a, b, e)

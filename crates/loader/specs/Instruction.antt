@@ -80,8 +80,8 @@ sourceAllowed x = caseOf (x .«source_form») (sourceByForm x) false
 
 -- the first and the second name and index. "A region operand has index 0" (load's second, store's first).
 -- "8 frame: .. words 3 and 4 (counting from 1) are first node and node count, exactly one tree"; "9 call: words 3 to 5 are extern name, first argument, count"
-abbrev pub operandsByFamily : List ℕ → ℕ → Instruction → List (ℕ × Bool)
-operandsByFamily nodes arguments x =
+abbrev pub operandWordsByFamily : List ℕ → ℕ → Instruction → List (ℕ × Bool)
+operandWordsByFamily nodes arguments x =
     let second-unused = eqb (x .«second_name») 0 && eqb (x .«second_index») 0 in
     (family.arithmetic, second-unused)
     ∷ (family.comparison, true)
@@ -98,7 +98,7 @@ operandsByFamily nodes arguments x =
 
 unfoldable pub operandsAllowed : List ℕ → ℕ → Instruction → Bool
 unfolding caseOf
-operandsAllowed nodes arguments x = caseOf (x .family) (operandsByFamily nodes arguments x) false
+operandsAllowed nodes arguments x = caseOf (x .family) (operandWordsByFamily nodes arguments x) false
 
 unfoldable pub instructionAllowed : List ℕ → ℕ → Instruction → Bool
 instructionAllowed nodes arguments x =

@@ -9,7 +9,7 @@ use Rattle.tables.specs.Rows.{regionRows, regionName, regionLength}
 use Rattle.tables.specs.Cells.{origin}
 use Rattle.tables.specs.declared.rows.Instruction.{Instruction}
 use Rattle.extern_call.specs.Call.{findCall}
-use Rattle.extern_call.specs.declared.call.Call.{Call}
+use Rattle.extern_call.specs.declared.call.ExternCall.{ExternCall}
 use Rattle.access_sets.specs.Set.{has}
 use Rattle.access_sets.specs.Access.{accessOf}
 use Rattle.access_sets.specs.declared.access.Access.the-variants.{Write}
@@ -22,7 +22,7 @@ pub record HasCell (regions : List ℕ) (r c : ℕ) : Type 0 where
   pub below : c < origin regions r + regionLength regions r
 
 -- the names that `access` lists as written (soundness/proofs/Access.antt: they are what the public call leaves in its list)
-abbrev pub writtenNames : Tables → Outcome Call → List ℕ
+abbrev pub writtenNames : Tables → Outcome ExternCall → List ℕ
 writtenNames t (ok call) = accessOf (t .parameters) (t .arguments) call Write
 writtenNames t (refuse number) = []
 
