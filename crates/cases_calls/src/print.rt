@@ -1,7 +1,7 @@
 // Parts of a line: the call and its number, what it answers, and the words that changed, with bars between.
+use access_sets::access::AccessAnswer;
 use console::check::CheckAnswer;
 use console::references::WalkAnswer;
-use access_sets::access::AccessAnswer;
 use extern_call::rows::ResolveAnswer;
 use journal::position::Position;
 use libc::STDOUT_FILENO;

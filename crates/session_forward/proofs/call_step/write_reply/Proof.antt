@@ -30,7 +30,7 @@ write-row-requires : tie.Need-write-row-requires Inv-loop μ-loop
 write-row-requires c κs =
     let replying = c .before .before .before .before .before .before .before .before .before .before .pre .0 in
     let at = c .before .before .before .loop in
-    (record { few = replying .layout .few; wide = at .inv .1 ∙ replying .layout .wide }, replying .row (at .k) (c .before .before .loop-test .taken), omega arith)
+    (record { laid = replying .layout .laid; wide = at .inv .1 ∙ replying .layout .wide }, replying .row (at .k) (c .before .before .loop-test .taken), omega arith)
 
 add-k : tie.Need-add-k Inv-loop μ-loop
 add-k c = omega arith

@@ -24,13 +24,20 @@ enum-known-outcome-2 : tie.Need-enum-known-outcome-2
 enum-known-outcome-2 c = search needs
 
 step-one-requires : tie.Need-step-one-requires
-step-one-requires c κs = (c .before .before .before .before .before .before .before .before .before .before .before .pre .1, one-there (c .before .before .before .before .before .before .before .before .before .before .before .pre .0 .layout) (writes-within (c .before .before .before .before .before .before .before .before .before .before .before .args .regions .now) (c .before .before .before .before .before .before .before .before .before .before .before .args .cells .now) (c .before .before .before .before .before .before .before .before .before .before .before .args .x) (c .before .before .before .before .before .before .before .before .before .before .before .args .reply .now) (seen rowOutcome (c .before .before .before .before .before .plain-outcome .ensures) (c .before .before .before .outcome2 .given .1))))
+step-one-requires c κs =
+    let at = c .before .before .before .before .before in
+    let s = at .before .before .before .before .before .before in
+    (s .pre .1, one-there (s .pre .0 .layout) (writes-within (s .pre .0 .layout .laid) (s .args .cells .now) (s .args .x) (s .args .reply .now) (seen rowOutcome (at .plain-outcome .ensures) (c .before .before .before .outcome2 .given .1))))
 
 enum-known-outcome-3 : tie.Need-enum-known-outcome-3
 enum-known-outcome-3 c = search needs
 
 step-two-requires : tie.Need-step-two-requires
-step-two-requires c κs = let h = two-there (c .before .before .before .before .before .before .before .before .before .before .before .pre .0 .layout) (writes-within (c .before .before .before .before .before .before .before .before .before .before .before .args .regions .now) (c .before .before .before .before .before .before .before .before .before .before .before .args .cells .now) (c .before .before .before .before .before .before .before .before .before .before .before .args .x) (c .before .before .before .before .before .before .before .before .before .before .before .args .reply .now) (seen rowOutcome (c .before .before .before .before .before .plain-outcome .ensures) (c .before .before .before .outcome3 .given .1))) in (c .before .before .before .before .before .before .before .before .before .before .before .pre .1, h .0, h .1)
+step-two-requires c κs =
+    let at = c .before .before .before .before .before in
+    let s = at .before .before .before .before .before .before in
+    let h = two-there (s .pre .0 .layout) (writes-within (s .pre .0 .layout .laid) (s .args .cells .now) (s .args .x) (s .args .reply .now) (seen rowOutcome (at .plain-outcome .ensures) (c .before .before .before .outcome3 .given .1))) in
+    (s .pre .1, h .0, h .1)
 
 same-length : tie.Need-same-length
 same-length c = search needs
