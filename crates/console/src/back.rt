@@ -1,14 +1,13 @@
 // The last step taken back from the journal, which is only read.
 ghost use mathlib.Core.Path.{_≡_};
 ghost use Rattle.tables.specs.Tables.{tablesOf};
-ghost use Rattle.session.specs.Back.{backed, backTables};
+ghost use Rattle.session_back.specs.Back.{backed, backTables};
 use journal::cells::CELL_WIDTH;
 use journal::position::Position;
 use session::answer::StepAnswer;
 use session::prepare::Prepared;
 use session::prepare::prepare;
-use session::take_back::take_back;
-use tables::rows::INSTRUCTION_WIDTH;
+use session_back::take_back::take_back;
 
 pub fn back(
     regions: &[u64],
@@ -36,7 +35,7 @@ pub fn back(
     match prepared {
         Prepared::Refused(number) => StepAnswer::Refused(number, position),
         Prepared::Cells(n) => take_back(
-            instructions.len() / INSTRUCTION_WIDTH,
+            instructions,
             &mut memory[..CELL_WIDTH * n],
             journal,
             position,

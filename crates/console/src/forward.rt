@@ -1,7 +1,7 @@
 // One step forward, with the extern routine's reply where the row is a CALL.
 ghost use mathlib.Core.Path.{_≡_};
 ghost use Rattle.tables.specs.Tables.{tablesOf};
-ghost use Rattle.session.specs.Forward.{left, forwardTables};
+ghost use Rattle.session_forward.specs.Forward.{left, forwardTables};
 use journal::cells::CELL_WIDTH;
 use journal::position::Position;
 use session::answer::StepAnswer;

@@ -3,7 +3,7 @@ use Prim.Native.Nat.{ℕ}
 use mathlib.Core.List.{List}
 use Rattle.tables.specs.Tables.{Tables}
 use Rattle.session.specs.Answer.{stepNumber}
-use Rattle.session.specs.Forward.{Left, forwardTables}
+use Rattle.session_forward.specs.Forward.{Left, forwardTables}
 use Rattle.console_c.specs.Position.{positionIn, positionAfter}
 
 -- the number returned, and the lent words and the position at exit

@@ -21,10 +21,10 @@ abbrev pub openedWords : ℕ → List ℕ → List ℕ → List ℕ → OpenedWo
 openedWords number memory position error = record { number = number; memory = memory; position = position; error = error }
 
 -- "position on 0"
-abbrev pub firstPosition : OpenAnswer → List ℕ → List ℕ
-firstPosition (Opened p) position = sets position 0 (positionWords p)
-firstPosition (Refused number) position = position
-firstPosition (Error e) position = position
+abbrev pub positionOnOpen : OpenAnswer → List ℕ → List ℕ
+positionOnOpen (Opened p) position = sets position 0 (positionWords p)
+positionOnOpen (Refused number) position = position
+positionOnOpen (Error e) position = position
 
 -- "error on 5"
 abbrev pub firstError : OpenAnswer → List ℕ → List ℕ
@@ -33,7 +33,7 @@ firstError (Refused number) error = error
 firstError (Error e) error = sets error 0 (errorWords e)
 
 abbrev pub openedFor : Opening → List ℕ → List ℕ → OpenedWords
-openedFor o position error = openedWords (openNumber (o .answer)) (o .memory) (firstPosition (o .answer) position) (firstError (o .answer) error)
+openedFor o position error = openedWords (openNumber (o .answer)) (o .memory) (positionOnOpen (o .answer) position) (firstError (o .answer) error)
 
 -- of the journal the length
 unfoldable pub consoleOpen : Tables → List ℕ → ℕ → List ℕ → List ℕ → OpenedWords

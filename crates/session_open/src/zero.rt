@@ -7,6 +7,7 @@ ghost use Rattle.operands.specs.Reach.{Layout};
 ghost use Rattle.session_open.specs.Zero.{ZeroedTo};
 use journal::cells::Write;
 use journal::cells::put_cell;
+use tables::cells::cells_in;
 use tables::rows::REGION_WIDTH;
 use tables::rows::region_at;
 
@@ -16,7 +17,7 @@ fn zero_region(regions: &[u64], cells: &mut [u64], r: usize, first: usize) -> us
     ensures { λ past. ⌜ ZeroedTo (now (regions .entry)) (now (cells .exit)) (r + 1) past ⌝ }
 {
     let region = region_at(regions, r);
-    let past = first + region.length as usize;
+    let past = first + cells_in(regions, r);
     let mut cell = first;
     while cell < past {
         let zero = Write {

@@ -150,7 +150,7 @@ fn about_call(
 pub fn about(source: &[u8], names: &[u64; NAME_WORDS], tables: &[u64; TABLE_WORDS], desk: Desk) {
     let lengths = desk.lengths;
     let position = desk.position;
-    let row = position.done;
+    let row = position.row();
     let instructions = table(tables, 5, lengths);
     let family = family_at(instructions, row);
     match family {

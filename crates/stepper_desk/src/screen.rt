@@ -34,7 +34,7 @@ pub fn screen(
     let lengths = desk.lengths;
     let view = desk.view;
     let position = desk.position;
-    let done = position.done;
+    let row = position.row();
     let instructions = table(tables, 5, lengths);
     head(desk, instructions.len() / INSTRUCTION_WIDTH);
     program_rows(
@@ -44,9 +44,9 @@ pub fn screen(
         table(tables, 3, lengths),
         table(tables, 4, lengths),
         instructions,
-        done,
+        row,
     );
-    end_row(view, instructions, done);
+    end_row(view, instructions, row);
     region_lines(
         source,
         names,

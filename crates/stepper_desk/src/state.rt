@@ -59,7 +59,7 @@ pub fn new_desk(colour: bool, echo: bool) -> Desk {
         colour,
         echo,
     };
-    let position = Position { done: 0, used: 0 };
+    let position = Position::first();
     Desk {
         text: 0,
         lengths: [0; 6],

@@ -72,7 +72,7 @@ fn open_lent(
     let lengths = desk.lengths;
     let answer = open_tables(tables, lengths, &mut memory[0..words], &journal[0..entries]);
     let state = opened(source, names, tables, desk, answer);
-    let first = Position { done: 0, used: 0 };
+    let first = Position::first();
     desk.stated(state).placed(first)
 }
 
@@ -186,11 +186,11 @@ fn reply_for(
 ) -> usize {
     let lengths = desk.lengths;
     let position = desk.position;
-    if family_at(table(tables, 5, lengths), position.done) != CALL {
+    if family_at(table(tables, 5, lengths), position.row()) != CALL {
         return 0;
     }
     let mut rows = [0; RESOLVE_WORDS];
-    let count = show_call(source, names, tables, desk, position.done, &mut rows);
+    let count = show_call(source, names, tables, desk, position.row(), &mut rows);
     ask_reply(&rows, count, reply, desk.view)
 }
 

@@ -1,16 +1,41 @@
-use mathlib.Core.Path.{sym}
-use native.Mathlib.Omega.{arith}
 use Prim.Native.Nat.{_*_}
+use mathlib.Core.Path.{_≡_, sym}
+use native.Mathlib.Omega.{arith}
+use lib.ListN.{length}
 use lib.Seq.{length-take-le}
-use Rattle.tables.specs.Outcome.{_>>=_, seen}
-use Rattle.session.specs.Prepare.{preparedOutcome}
-use Rattle.session.specs.Forward.{leaves, forwardLook, forwardTables}
-use Rattle.session.proofs.Prepared.{prepared, ready}
-use Rattle.session_forward.proofs.StepLaws.{ready-steppable}
-use Rattle.session.proofs.PastLaws.{forward-on}
+use Rattle.tables.specs.Outcome.{seen}
+use Rattle.tables.specs.Tables.{Tables, tablesOf}
+use Rattle.journal.specs.Cells.{cellWidth}
+use Rattle.session.specs.Prepare.{preparedOf, preparedOutcome}
+use Rattle.session.specs.declared.prepare.Prepared.{Prepared}
+use Rattle.session.proofs.Prepared.{Facts, prepared, ready}
+use Rattle.session_forward.proofs.StepLaws.{ready-steppable, forward-unprepared, forward-on}
 use borrow.Author.Needs.{needs}
 use Rattle.console.proofs.forward.forward.Statement.{statement}
 use Rattle.console.proofs.forward.forward.Tie as tie
+
+-- ---- the places, and what the first looks have seen
+
+abbrev lent : tie.After-slice-known → tie.Start
+lent c = c .before .before .before .before .before .before .before
+
+abbrev entry : tie.After-prepare → tie.Start
+entry c = lent (c .before .before .before)
+
+abbrev looked : tie.After-prepared2 → tie.After-prepare
+looked c = c .before .before
+
+abbrev tablesAt : tie.Start → Tables
+tablesAt s = tablesOf (s .args .regions .now) (s .args .externs .now) (s .args .parameters .now) (s .args .nodes .now) (s .args .arguments .now) (s .args .instructions .now)
+
+looks : (c : tie.After-prepare) {r : Prepared} → c .prepare .result ≡ r
+    → preparedOf (tablesAt (entry c)) (length (entry c .args .memory .now)) (length (entry c .args .journal .now)) ≡ preparedOutcome r
+looks c e = seen preparedOutcome (c .prepare .ensures) e
+
+facts : (c : tie.After-prepared2) → Facts (tablesAt (entry (looked c))) (length (entry (looked c) .args .memory .now)) (length (entry (looked c) .args .journal .now)) (c .prepared2 .given .0 .0)
+facts c = prepared _ _ _ (looks (looked c) (c .prepared2 .given .1))
+
+-- ---- the needs
 
 prepare-requires : tie.Need-prepare-requires
 prepare-requires c κs = search needs
@@ -22,20 +47,22 @@ enum-known-prepared-2 : tie.Need-enum-known-prepared-2
 enum-known-prepared-2 c = search needs
 
 mul-step-row : tie.Need-mul-step-row
-mul-step-row c = omega (arith, prepared _ _ _ (seen preparedOutcome (c .before .before .before .prepare .ensures) (c .before .prepared2 .given .1)) .few)
+mul-step-row c = omega (arith, facts (c .before) .few)
 
 slice-relend-prefix-step-row : tie.Need-slice-relend-prefix-step-row
-slice-relend-prefix-step-row c = prepared _ _ _ (seen preparedOutcome (c .before .before .before .prepare .ensures) (c .before .prepared2 .given .1)) .room
+slice-relend-prefix-step-row c = facts (c .before) .room
 
 slice-aggregate-step-row : tie.Need-slice-aggregate-step-row
-slice-aggregate-step-row c = sym (length-take-le (2 * c .before .before .prepared2 .given .0 .0) (c .before .before .before .before .before .before .before .before .before .before .before .before .before .before .args .memory .now) (prepared _ _ _ (seen preparedOutcome (c .before .before .before .before .prepare .ensures) (c .before .before .prepared2 .given .1)) .room))
+slice-aggregate-step-row c = let at = c .before .before in sym (length-take-le (cellWidth * at .prepared2 .given .0 .0) (entry (looked at) .args .memory .now) (facts at .room))
 
 step-row-requires : tie.Need-step-row-requires
-step-row-requires c κs = ready-steppable (ready _ _ _ (prepared _ _ _ (seen preparedOutcome (c .before .before .before .before .before .prepare .ensures) (c .before .before .before .prepared2 .given .1))))
+step-row-requires c κs = ready-steppable (ready _ _ _ (facts (c .before .before .before)))
 
 returns : tie.Need-returns
-unfolding forwardTables forwardLook leaves _>>=_
-returns c = rw (seen preparedOutcome (c .before .before .before .prepare .ensures) (c .before .prepared .given .1))
+returns c =
+    let at = c .before .before .before in
+    let s = entry at in
+    forward-unprepared (tablesAt s) (s .args .memory .now) (s .args .journal .now) (s .args .position) (s .args .reply .now) (looks at (c .before .prepared .given .1))
 
 same-length : tie.Need-same-length
 same-length c = search needs
@@ -45,8 +72,10 @@ same-length-2 c = search needs
 
 returns-2 : tie.Need-returns-2
 returns-2 c =
-    let start = c .before .before .before .before .before .before .before .before .before .before .before .before .before .before .before .before .before .before .before .before in
-    forward-on _ _ _ (start .args .position) (seen preparedOutcome (c .before .before .before .before .before .before .before .before .before .before .prepare .ensures) (c .before .before .before .before .before .before .before .before .prepared2 .given .1)) (start .args .reply .now) (c .before .before .before .before .step-row .ensures (start .args .nodes .now))
+    let after = c .before .before .before .before in
+    let at = after .before .before .before .before in
+    let s = entry (looked at) in
+    forward-on (tablesAt s) (s .args .memory .now) (s .args .journal .now) (s .args .position) (s .args .reply .now) (looks (looked at) (at .prepared2 .given .1)) (after .step-row .ensures (s .args .nodes .now))
 
 pub forward-spec : {M : Type 1} → statement M
 forward-spec =

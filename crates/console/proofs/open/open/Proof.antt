@@ -1,15 +1,41 @@
 use Prim.Native.Nat.{_*_}
-use mathlib.Core.Path.{sym}
+use mathlib.Core.Path.{_≡_, sym}
 use native.Mathlib.Omega.{arith}
+use lib.ListN.{length}
 use lib.Seq.{length-take-le}
 use Rattle.tables.specs.Outcome.{seen}
-use Rattle.session.specs.Prepare.{preparedOutcome}
-use Rattle.session_open.specs.Open.{openTables}
-use Rattle.session.proofs.Prepared.{prepared, ready}
-use Rattle.session_open.proofs.OpenLaws.{ready-open, opens-past}
+use Rattle.tables.specs.Tables.{Tables, tablesOf}
+use Rattle.journal.specs.Cells.{cellWidth}
+use Rattle.session.specs.Prepare.{preparedOf, preparedOutcome}
+use Rattle.session.specs.declared.prepare.Prepared.{Prepared}
+use Rattle.session.proofs.Prepared.{Facts, prepared, ready}
+use Rattle.session_open.proofs.OpenLaws.{ready-open, open-unprepared, open-on}
 use borrow.Author.Needs.{needs}
 use Rattle.console.proofs.open.open.Statement.{statement}
 use Rattle.console.proofs.open.open.Tie as tie
+
+-- ---- the places, and what the first looks have seen
+
+abbrev lent : tie.After-slice-known → tie.Start
+lent c = c .before .before .before .before .before .before .before
+
+abbrev entry : tie.After-prepare → tie.Start
+entry c = lent (c .before .before)
+
+abbrev looked : tie.After-prepared2 → tie.After-prepare
+looked c = c .before .before
+
+abbrev tablesAt : tie.Start → Tables
+tablesAt s = tablesOf (s .args .regions .now) (s .args .externs .now) (s .args .parameters .now) (s .args .nodes .now) (s .args .arguments .now) (s .args .instructions .now)
+
+looks : (c : tie.After-prepare) {r : Prepared} → c .prepare .result ≡ r
+    → preparedOf (tablesAt (entry c)) (length (entry c .args .memory .now)) (length (entry c .args .journal .now)) ≡ preparedOutcome r
+looks c e = seen preparedOutcome (c .prepare .ensures) e
+
+facts : (c : tie.After-prepared2) → Facts (tablesAt (entry (looked c))) (length (entry (looked c) .args .memory .now)) (length (entry (looked c) .args .journal .now)) (c .prepared2 .given .0 .0)
+facts c = prepared _ _ _ (looks (looked c) (c .prepared2 .given .1))
+
+-- ---- the needs
 
 prepare-requires : tie.Need-prepare-requires
 prepare-requires c κs = search needs
@@ -21,26 +47,32 @@ enum-known-prepared-2 : tie.Need-enum-known-prepared-2
 enum-known-prepared-2 c = search needs
 
 mul-open-cells : tie.Need-mul-open-cells
-mul-open-cells c = omega (arith, prepared _ _ _ (seen preparedOutcome (c .before .before .before .prepare .ensures) (c .before .prepared2 .given .1)) .few)
+mul-open-cells c = omega (arith, facts (c .before) .few)
 
 slice-relend-prefix-open-cells : tie.Need-slice-relend-prefix-open-cells
-slice-relend-prefix-open-cells c = prepared _ _ _ (seen preparedOutcome (c .before .before .before .prepare .ensures) (c .before .prepared2 .given .1)) .room
+slice-relend-prefix-open-cells c = facts (c .before) .room
 
 slice-aggregate-open-cells : tie.Need-slice-aggregate-open-cells
-slice-aggregate-open-cells c = sym (length-take-le (2 * (c .before .before .prepared2 .given .0 .0)) (c .before .before .before .before .before .before .before .before .before .before .before .before .before .args .memory .now) (prepared _ _ _ (seen preparedOutcome (c .before .before .before .before .prepare .ensures) (c .before .before .prepared2 .given .1)) .room))
+slice-aggregate-open-cells c = let at = c .before .before in sym (length-take-le (cellWidth * at .prepared2 .given .0 .0) (entry (looked at) .args .memory .now) (facts at .room))
 
 open-cells-requires : tie.Need-open-cells-requires
-open-cells-requires c κs = ready-open (ready _ _ _ (prepared _ _ _ (seen preparedOutcome (c .before .before .before .before .prepare .ensures) (c .before .before .prepared2 .given .1))))
+open-cells-requires c κs = ready-open (ready _ _ _ (facts (c .before .before)))
 
 returns : tie.Need-returns
-unfolding openTables
-returns c = rw (seen preparedOutcome (c .before .before .before .prepare .ensures) (c .before .prepared .given .1))
+returns c =
+    let at = c .before .before .before in
+    let s = entry at in
+    open-unprepared (tablesAt s) (s .args .memory .now) _ (looks at (c .before .prepared .given .1))
 
 same-length : tie.Need-same-length
 same-length c = search needs
 
 returns-2 : tie.Need-returns-2
-returns-2 c = opens-past _ _ _ (seen preparedOutcome (c .before .before .before .before .before .before .before .prepare .ensures) (c .before .before .before .before .before .prepared2 .given .1)) (c .before .before .open-cells .ensures)
+returns-2 c =
+    let after = c .before .before in
+    let at = after .before .before .before in
+    let s = entry (looked at) in
+    open-on (tablesAt s) (s .args .memory .now) _ (looks (looked at) (at .prepared2 .given .1)) (after .open-cells .ensures)
 
 pub open-spec : {M : Type 1} → statement M
 open-spec =

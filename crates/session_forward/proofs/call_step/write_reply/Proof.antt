@@ -18,6 +18,22 @@ Inv-loop regions parameters arguments call cells₀ journal₀ used reply rows k
 abbrev μ-loop : tie.MeasureT-loop
 μ-loop regions parameters arguments call cells₀ journal₀ used reply rows k₀ cells journal k = rows - k
 
+-- ---- the places
+
+abbrev entry : tie.At-loop Inv-loop μ-loop → tie.Start Inv-loop μ-loop
+entry c = c .before .before .before .before .before .before .before
+
+abbrev wrote : tie.After-slice-known4 Inv-loop μ-loop → tie.After-write-row Inv-loop μ-loop
+wrote c = c .before .before .before .before
+
+abbrev within : tie.After-write-row Inv-loop μ-loop → tie.In-loop Inv-loop μ-loop
+within c = c .before .before .before
+
+abbrev left : tie.After-close Inv-loop μ-loop → tie.After-loop Inv-loop μ-loop
+left c = c .before .before
+
+-- ---- the needs
+
 loop-holds : tie.Need-loop-holds Inv-loop μ-loop
 loop-holds c =
     let s = c .before .before .before .before .before .before .args in
@@ -28,9 +44,10 @@ add-write-row c = omega arith
 
 write-row-requires : tie.Need-write-row-requires Inv-loop μ-loop
 write-row-requires c κs =
-    let replying = c .before .before .before .before .before .before .before .before .before .before .pre .0 in
-    let at = c .before .before .before .loop in
-    (record { laid = replying .layout .laid; wide = at .inv .1 ∙ replying .layout .wide }, replying .row (at .k) (c .before .before .loop-test .taken), omega arith)
+    let in-loop = c .before .before in
+    let at = in-loop .before .loop in
+    let replying = entry (in-loop .before) .pre .0 in
+    (record { laid = replying .layout .laid; wide = at .inv .1 ∙ replying .layout .wide }, replying .row (at .k) (in-loop .loop-test .taken), omega arith)
 
 add-k : tie.Need-add-k Inv-loop μ-loop
 add-k c = omega arith
@@ -40,10 +57,11 @@ loop-less c = omega arith
 
 loop-again : tie.Need-loop-again Inv-loop μ-loop
 loop-again c =
-    let s = c .before .before .before .before .before .before .before .before .before .before .before .before .before .before .before .args in
-    let at = c .before .before .before .before .before .before .before .before .loop in
-    let made = c .before .before .before .before .write-row in
-    let next = replies-turn (s .regions .now) (s .parameters .now) (s .arguments .now) (s .call) (s .reply .now) _ (at .k) (c .before .before .before .before .before .before .before .loop-test .taken) in
+    let made = wrote c .write-row in
+    let in-loop = within (wrote c) in
+    let at = in-loop .before .loop in
+    let s = entry (in-loop .before) .args in
+    let next = replies-turn (s .regions .now) (s .parameters .now) (s .arguments .now) (s .call) (s .reply .now) _ (at .k) (in-loop .loop-test .taken) in
     (omega arith, made .kept .1 .1 .1 .1 .0 ∙ at .inv .1, made .kept .1 .1 .1 .1 .1 .0 ∙ at .inv .2, writing-turn _ _ _ _ _ _ _ _ (at .inv .3) _ _ _ _ next (made .ensures .0) (made .ensures .1))
 
 add-close : tie.Need-add-close Inv-loop μ-loop
@@ -53,17 +71,18 @@ close-requires : tie.Need-close-requires Inv-loop μ-loop
 close-requires c κs = omega arith
 
 same-length : tie.Need-same-length Inv-loop μ-loop
-same-length c = c .before .before .before .before .before .loop .inv .1
+same-length c = left (c .before .before) .before .loop .inv .1
 
 same-length-2 : tie.Need-same-length-2 Inv-loop μ-loop
-same-length-2 c = c .before .before .close .kept .0 ∙ c .before .before .before .before .before .loop .inv .2
+same-length-2 c = let closed = c .before .before in closed .close .kept .0 ∙ left closed .before .loop .inv .2
 
 returns : tie.Need-returns Inv-loop μ-loop
 returns c =
-    let s = c .before .before .before .before .before .before .before .before .before .before .before .before .args in
-    let at = c .before .before .before .before .before .loop in
-    let none = replies-none (s .regions .now) (s .parameters .now) (s .arguments .now) (s .call) (s .reply .now) _ (at .k) (c .before .before .before .before .loop-test .left) in
-    writing-end _ _ _ _ _ _ _ _ (at .inv .3) _ _ _ none (omega arith) refl (c .before .before .close .ensures)
+    let closed = c .before .before in
+    let at = left closed .before .loop in
+    let s = entry (left closed .before) .args in
+    let none = replies-none (s .regions .now) (s .parameters .now) (s .arguments .now) (s .call) (s .reply .now) _ (at .k) (left closed .loop-test .left) in
+    writing-end _ _ _ _ _ _ _ _ (at .inv .3) _ _ _ none (omega arith) refl (closed .close .ensures)
 
 pub write-reply-spec : {M : Type 1} → statement M
 write-reply-spec =

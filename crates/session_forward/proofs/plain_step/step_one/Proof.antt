@@ -1,24 +1,46 @@
-use mathlib.Core.Path.{refl, sym, _∙_}
+use mathlib.Core.Bool.{Bool}
+use mathlib.Core.Path.{_≡_, refl, sym, _∙_}
 use mathlib.Core.List.{[], _∷_}
+use Prim.Native.Nat.{_+_, _-_}
 use native.Mathlib.Omega.{arith}
+use lib.ListN.{length}
+use lib.Dec.{leb}
 use borrow.Author.Tests.{not-true, not-false}
+use Rattle.session.specs.Prepare.{entriesOf}
 use Rattle.session_forward.proofs.StepLaws.{room-words, full, roomy}
 use borrow.Author.Needs.{needs}
 use Rattle.session_forward.proofs.plain_step.step_one.Statement.{statement}
 use Rattle.session_forward.proofs.plain_step.step_one.Tie as tie
+
+-- ---- the places, and whether there is room
+
+abbrev entry : tie.After-has-room → tie.Start
+entry c = c .before .before .before
+
+abbrev wrote : tie.After-slice-known4 → tie.After-write-one
+wrote c = c .before .before .before .before
+
+abbrev roomed : tie.After-write-one → tie.Else1
+roomed c = c .before .before .before
+
+room : (c : tie.After-has-room) {b : Bool} → c .has-room .result ≡ b → leb (1 + 1) (entriesOf (length (entry c .args .journal .now)) - entry c .args .p .used) ≡ b
+room c e = sym (c .has-room .ensures) ∙ e
+
+-- ---- the needs
 
 has-room-requires : tie.Need-has-room-requires
 has-room-requires c κs = search needs
 
 returns : tie.Need-returns
 returns c =
-    let start = c .before .before .before .before in
-    full (start .args .cells .now) (start .args .journal .now) (start .args .p) (start .args .w ∷ []) 1 refl (sym (c .before .has-room .ensures) ∙ not-true _ (c .if1 .taken))
+    let s = entry (c .before) .args in
+    full (s .cells .now) (s .journal .now) (s .p) (s .w ∷ []) 1 refl (room (c .before) (not-true _ (c .if1 .taken)))
 
 write-one-requires : tie.Need-write-one-requires
 write-one-requires c κs =
-    let start = c .before .before .before .before .before .before in
-    (start .pre .1, omega (arith, room-words _ 1 (start .args .p) (sym (c .before .before .before .has-room .ensures) ∙ not-false _ (c .before .before .if1 .left))))
+    let roomed = c .before .before in
+    let at = roomed .before in
+    (entry at .pre .1, omega (arith, room-words _ 1 (entry at .args .p) (room at (not-false _ (roomed .if1 .left)))))
 
 advance-requires : tie.Need-advance-requires
 advance-requires c κs = search needs
@@ -31,8 +53,10 @@ same-length-2 c = search needs
 
 returns-2 : tie.Need-returns-2
 returns-2 c =
-    let start = c .before .before .before .before .before .before .before .before .before .before .before .before in
-    roomy (start .args .cells .now) (start .args .journal .now) (start .args .p) (start .args .w ∷ []) 1 refl (sym (c .before .before .before .before .before .before .before .before .before .has-room .ensures) ∙ not-false _ (c .before .before .before .before .before .before .before .before .if1 .left)) (c .advance .ensures) (c .before .before .before .before .before .write-one .ensures .0) (c .before .before .before .before .before .write-one .ensures .1)
+    let after = wrote (c .before) in
+    let at = roomed after in
+    let s = entry (at .before) .args in
+    roomy (s .cells .now) (s .journal .now) (s .p) (s .w ∷ []) 1 refl (room (at .before) (not-false _ (at .if1 .left))) (c .advance .ensures) (after .write-one .ensures .0) (after .write-one .ensures .1)
 
 pub step-one-spec : {M : Type 1} → statement M
 step-one-spec =

@@ -1,12 +1,13 @@
 use mathlib.Core.Path.{_≡_, sym, _∙_}
 use Rattle.tables.specs.Outcome.{ok, seen}
 use Rattle.tables.specs.Look.{lookOutcome}
+use Rattle.tables.specs.declared.look.Look.{Look}
 use Rattle.tables.specs.Tables.{Tables, tablesOf}
 use Rattle.loader.proofs.Loaded.{Loaded, loaded}
 use Rattle.type_check.specs.Check.{checkOf}
 use Rattle.type_check.specs.declared.error.Verdict.the-variants.{Accepted}
 use Rattle.type_check.proofs.CheckLaws.{loaded-frames}
-use Rattle.session_open.specs.Open.{callLook, callsLook, programLook, programVerdict, openCells}
+use Rattle.session_open.specs.Open.{callTables, callLook, callsLook, programLook, programVerdict, openCells}
 use Rattle.session_open.proofs.OpenLaws.{loaded-calls}
 use borrow.Author.Needs.{needs}
 use Rattle.session_open.proofs.open.open_cells.Statement.{statement}
@@ -26,12 +27,19 @@ looked c = c .before .before
 abbrev tablesAt : tie.Start → Tables
 tablesAt s = tablesOf (s .args .regions .now) (s .args .externs .now) (s .args .parameters .now) (s .args .nodes .now) (s .args .arguments .now) (s .args .instructions .now)
 
+abbrev callsAt : tie.Start → Tables
+callsAt s = callTables (s .args .regions .now) (s .args .externs .now) (s .args .parameters .now) (s .args .arguments .now) (s .args .instructions .now)
+
 lent : (c : tie.After-slice-known) → Loaded (tablesAt (entry c))
 lent c = loaded _ (entry c .pre .loads)
 
 well-typed : (c : tie.After-enum-told)
     → checkOf (entry (c .before .before .before) .args .regions .now) (entry (c .before .before .before) .args .nodes .now) (entry (c .before .before .before) .args .instructions .now) ≡ Accepted
 well-typed c = sym (c .before .before .check-program .ensures) ∙ c .enum-told .given .1
+
+rows-looked : (c : tie.After-program-look) {r : Look} → c .program-look .result ≡ r
+    → programLook (callsAt (entry (checked c .before .before .before))) ≡ lookOutcome r
+rows-looked c e = seen lookOutcome (c .program-look .ensures) e
 
 -- ---- the needs
 
@@ -58,7 +66,7 @@ returns-2 : tie.Need-returns-2
 unfolding openCells programVerdict programLook callsLook callLook
 returns-2 c =
     let at = c .before .before .before in
-    rw (well-typed (checked at), seen lookOutcome (at .program-look .ensures) (c .before .look .given .1))
+    rw (well-typed (checked at), rows-looked at (c .before .look .given .1))
 
 enum-told-2 : tie.Need-enum-told-2
 enum-told-2 c = search needs
@@ -76,7 +84,7 @@ returns-3 : tie.Need-returns-3
 unfolding openCells programVerdict programLook callsLook callLook
 returns-3 c =
     let at = c .before .before .before .before .before in
-    rw (well-typed (checked (looked at)), seen lookOutcome (looked at .program-look .ensures) (at .enum-told2 .given .1), c .before .before .before .zero-cells .ensures, c .first .ensures)
+    rw (well-typed (checked (looked at)), rows-looked (looked at) (at .enum-told2 .given .1), c .before .before .before .zero-cells .ensures, c .first .ensures)
 
 pub open-cells-spec : {M : Type 1} → statement M
 open-cells-spec =
