@@ -1,4 +1,4 @@
--- Demand 3: the theorem. Assumes nothing.
+-- Demand 3: the theorem, under the claim's premises. No axioms.
 use lib.ListN.{length}
 use Rattle.soundness.specs.Sound.{Checked}
 use Rattle.soundness.proofs.Sound.{sound}
@@ -10,5 +10,5 @@ use Rattle.sequence.proofs.Sequence.{faithful}
 pub demand-3 : Demand3
 demand-3 t memory journal words e calls =
     let a = accepts t memory (length journal) e in
-    let checked : Checked t = record { loads = a .prepared .loads; passes = a .checked; words = words } in
+    let checked : Checked t = record { loads = a .facts .loads; passes = a .checked; laid = record { few = a .facts .few }; words = words } in
     faithful t (sound t checked) memory journal a calls
