@@ -16,7 +16,7 @@ use Rattle.access_sets.specs.Inner.{Listed}
 use Rattle.access_sets.specs.Access.{Accessing, accessOf, orUntouched, withSets, accessCall}
 use Rattle.access_sets.specs.declared.access.Access.the-variants.{Read, Write}
 use Rattle.access_sets.specs.declared.access.AccessAnswer.the-variants.{Sets}
-use Rattle.soundness.specs.Sound.{writeSet}
+use Rattle.soundness.specs.WriteSet.{writeSet}
 
 module _ (t : Tables) (x : Instruction) (reads writes : List ℕ) where
   -- where it accepts, the written names stand at the front of the lent list

@@ -37,8 +37,9 @@ use Rattle.call_reply.specs.declared.reply.Reply.{Reply}
 use Rattle.operands.proofs.Binds.{bound}
 use Rattle.operands.proofs.AddressLaws.{index-below}
 use Rattle.call_reply.proofs.ReplyLaws.{Judged, judged-ok, scalar-below, replied-argument}
-use Rattle.soundness.specs.Sound.{writeSet, GoodWrite}
-use Rattle.soundness.proofs.Regions.{KindsAllowed, Region, region-of, cell-of}
+use Rattle.soundness.specs.WriteSet.{writeSet}
+use Rattle.soundness.specs.Sound.{GoodWrite}
+use Rattle.soundness.proofs.Regions.{KindsAllowed, Region, cell-of}
 use Rattle.soundness.proofs.Values.{Kept, kept}
 
 -- ---- the cell that a row of the reply hits
@@ -74,6 +75,7 @@ module _ (t : Tables) (x : Instruction) (kinds : KindsAllowed (t .regions)) wher
   -- a write there, of a name in the write set
   aimed-good : {name kind i : ℕ} (y : Reply) → Aimed (t .regions) name kind i → y .kind ≡ kind → fitsKind (y .kind) (y .word) ≡ true
       → has name (writeSet t x) ≡ true → GoodWrite t x (write (M.cellFound (t .regions) i (lookupRegion (t .regions) name)) (y .kind) (y .word))
+  unfolding addressOf
   aimed-good {name} {kind} {i} y a k f h =
       let r = a .region in
       let l = region-row (t .regions) name r (a .named) in
@@ -83,7 +85,11 @@ module _ (t : Tables) (x : Instruction) (kinds : KindsAllowed (t .regions)) wher
       rw (a .named) (record {
         there = w .there;
         fits = w .fits;
-        allowed = λ u. rw (region-of (t .regions) r i l (a .index), region-named (t .regions) name r (a .named)) h;
+        allowed = λ u. record {
+          region = r;
+          cell = record { there = l; from = omega arith; below = omega (arith, a .index) };
+          named = rw (region-named (t .regions) name r (a .named)) h;
+        };
       })
 
   module _ {call : Call} (v : Resolvable (t .regions) (t .externs) (t .parameters) (t .arguments) x call) where

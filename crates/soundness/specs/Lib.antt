@@ -1,1 +1,2 @@
+pub mod WriteSet
 pub mod Sound
