@@ -1,92 +1,96 @@
 -- A back on a reached session: its answer and what it leaves are the replay machine's. Assumes nothing.
 use Prim.Native.Nat.{ℕ, suc, _+_, _*_, _-_}
-use mathlib.Core.Bool.{true}
 use mathlib.Core.List.{List, [], _∷_, _++_}
 use mathlib.Core.Path.{_≡_, refl, sym, ap, ap₂, _∙_}
 use native.Mathlib.Nat.{le-of-lt}
 use native.Mathlib.Omega.{arith}
 use lib.ListN.{length, take, drop}
-use borrow.Author.Tests.{lt-ltb}
 use Rattle.tables.specs.Refusal.{nothingToTakeBack}
-use Rattle.tables.specs.Outcome.{ok, _>>=_, _>>_, need}
+use Rattle.tables.specs.Outcome.{Outcome, ok, refuse, _>>=_, _>>_, need}
 use Rattle.journal.specs.declared.cells.Write.{Write}
-use Rattle.journal.specs.Entries.{log, closing, changesAt, entriesAt}
+use Rattle.journal.specs.Entries.{log, closing}
 use Rattle.journal.specs.Position.{retreated}
-use Rattle.journal.specs.Restore.{present, undone}
-use Rattle.journal.proofs.CellsLaws.{each-map}
-use Rattle.journal.proofs.EntriesLaws.{changes-log}
-use Rattle.journal.proofs.RestoreLaws.{undo-log, present-log}
-use Rattle.session.specs.Back.{lastChanges, firstEntry, journalLook, takeBackLook, backLook, backed, backLeaves, backTables}
+use Rattle.journal.specs.Restore.{restored, undone}
+use Rattle.journal.proofs.RestoreLaws.{restored-olds}
+use Rattle.session.specs.Back.{firstEntry, journalLook, takeBackLook, backLook, backed, backLeaves, backTables}
 use Rattle.session.specs.declared.answer.StepAnswer.the-variants.{Moved, Refused}
-use Rattle.sequence.specs.Replay.{Machine, History, cellsAt, usedAt, positionAt}
-use Rattle.sequence.proofs.Reached.{writesAt, journalAt, length-journalAt, journal-parted, count, Started, Within, goodAt, cells-taken, past-left, prepared-at, position-fits}
+use Rattle.sequence.specs.Calls.{back}
+use Rattle.sequence.specs.Replay.{Machine, History, State, cellsAfter, writesAfter, usedAfter, cellsAt, positionAt, replayed}
+use Rattle.sequence.specs.Journal.{stepsAfter, journalAfter, journalAt}
+use Rattle.sequence.proofs.Stack.{journal-look, undone-is}
+use Rattle.sequence.proofs.Reached.{oldsAfter, length-oldsAfter, used-is, journal-parted, count, Started, Within, present-after, cells-taken, past-left, prepared-at, position-fits}
 
-module _ {M : Machine} {past : List ℕ} {words : ℕ} (started : Started M past words) where
+abbrev at : History → State
+at h = record { history = h }
+
+module _ {M : Machine} {past : List ℕ} (started : Started M past) where
   -- ---- with no step done: 12
 
-  pub back-none : (rest : List ℕ) → Within M words [] rest
-      → backTables (M .tables) (cellsAt M [] ++ past) (journalAt M [] ++ rest) (positionAt M [])
-      ≡ backed (Refused nothingToTakeBack (positionAt M [])) (cellsAt M [] ++ past)
+  pub none-dropped : replayed M back (at []) ≡ refuse nothingToTakeBack
+  unfolding replayed _>>=_ _>>_
+  none-dropped = rw (started .prepared)
+
+  pub back-none : (rest : List ℕ) → Within M (at []) rest
+      → backTables (M .tables) (cellsAt M (at []) ++ past) (journalAt M (at []) ++ rest) (positionAt M (at []))
+      ≡ backed (Refused nothingToTakeBack (positionAt M (at []))) (cellsAt M (at []) ++ past)
   unfolding backTables backLook takeBackLook journalLook backLeaves _>>=_ _>>_ need
   back-none rest w = rw (prepared-at started w, position-fits started w)
 
   -- ---- the last step taken back
 
-  module _ (reply : List ℕ) (h : History) (rest : List ℕ) (w : Within M words (reply ∷ h) rest) where
-    used-more : usedAt M (reply ∷ h) ≡ usedAt M h + (length (writesAt M h reply) + 1)
-    unfolding usedAt
-    used-more = refl
+  pub last-dropped : (reply : List ℕ) (h : History) → replayed M back (at (reply ∷ h)) ≡ ok (at h)
+  unfolding replayed _>>=_ _>>_
+  last-dropped reply h = rw (started .prepared)
 
-    first-is : firstEntry (positionAt M (reply ∷ h)) (length (writesAt M h reply)) ≡ usedAt M h
-    first-is = omega (arith, used-more)
+  module _ (reply : List ℕ) (h : History) (rest : List ℕ) (w : Within M (at (reply ∷ h)) rest) where
+    -- its old values
+    abbrev os : List Write
+    os = oldsAfter M h reply
 
-    count-is : lastChanges (journalAt M (reply ∷ h) ++ rest) (positionAt M (reply ∷ h)) ≡ length (writesAt M h reply)
-    count-is =
-        let at : usedAt M (reply ∷ h) - 1 ≡ usedAt M h + length (writesAt M h reply) = omega (arith, used-more) in
-        ap₂ changesAt (journal-parted M reply h rest) at
-        ∙ changes-log (journalAt M h) rest (cellsAt M h) (writesAt M h reply) (usedAt M h) (length-journalAt M h)
+    abbrev journal : List ℕ
+    journal = journalAfter M (reply ∷ h) ++ rest
 
-    cells-there : present (count M) (entriesAt (journalAt M (reply ∷ h) ++ rest) (usedAt M h) (length (writesAt M h reply))) ≡ true
-    cells-there =
-        let ws : List Write = writesAt M h reply in
-        ap (λ (j : List ℕ). present (count M) (entriesAt j (usedAt M h) (length ws))) (journal-parted M reply h rest)
-        ∙ present-log (count M) (journalAt M h) (closing (length ws) ++ rest) (cellsAt M h) ws (usedAt M h) (length-journalAt M h)
-        (each-map (λ w g. g .there) (goodAt started h reply (w .steps)))
+    used-more : usedAfter M (reply ∷ h) ≡ usedAfter M h + (length os + 1)
+    unfolding usedAfter
+    used-more = ap (λ (n : ℕ). usedAfter M h + (n + 1)) (sym (length-oldsAfter M h reply))
 
-    back-look : backLook (M .tables) (length (cellsAt M (reply ∷ h) ++ past)) (journalAt M (reply ∷ h) ++ rest) (positionAt M (reply ∷ h))
-        ≡ ok (length (writesAt M h reply))
-    unfolding backLook takeBackLook journalLook _>>=_ _>>_ need
-    back-look =
-        let k : ℕ = length (writesAt M h reply) in
-        rw (
-          prepared-at started w,
-          position-fits started w,
-          lt-ltb 0 (suc (length h)) (omega arith),
-          lt-ltb 0 (usedAt M (reply ∷ h)) (omega (arith, used-more)),
-          count-is,
-          lt-ltb k (usedAt M (reply ∷ h)) (omega (arith, used-more)),
-          first-is,
-          cells-there,
-        )
+    look : journalLook (count M) journal (positionAt M (at (reply ∷ h))) ≡ ok (length os)
+    unfolding stepsAfter
+    look =
+        ap (λ (u : ℕ). journalLook (count M) journal (record { done = suc (length h); used = u })) (sym (used-is M (reply ∷ h)))
+        ∙ journal-look os (stepsAfter M h) rest (count M) (suc (length h)) (omega arith) (present-after started h reply (w .steps))
 
-    position-is : retreated (positionAt M (reply ∷ h)) (length (writesAt M h reply)) ≡ positionAt M h
-    position-is = let d : suc (length h) - 1 ≡ length h = omega arith in λ i. record { done = d i; used = first-is i }
+    back-look : backLook (M .tables) (length (cellsAfter M (reply ∷ h) ++ past)) journal (positionAt M (at (reply ∷ h))) ≡ ok (length os)
+    unfolding backLook takeBackLook _>>=_ _>>_ need
+    back-look = rw (prepared-at started w, position-fits started w) look
 
-    memory-is : undone (journalAt M (reply ∷ h) ++ rest) (firstEntry (positionAt M (reply ∷ h)) (length (writesAt M h reply))) (length (writesAt M h reply))
-        (take (2 * count M) (cellsAt M (reply ∷ h) ++ past)) ++ drop (2 * count M) (cellsAt M (reply ∷ h) ++ past) ≡ cellsAt M h ++ past
-    unfolding cellsAt
+    position-is : retreated (positionAt M (at (reply ∷ h))) (length os) ≡ positionAt M (at h)
+    position-is =
+        let d : suc (length h) - 1 ≡ length h = omega arith in
+        let u : usedAfter M (reply ∷ h) - (length os + 1) ≡ usedAfter M h = omega (arith, used-more) in λ i. record { done = d i; used = u i }
+
+    undone-all : (m : List ℕ) → undone journal (firstEntry (positionAt M (at (reply ∷ h))) (length os)) (length os) m ≡ restored m os
+    unfolding stepsAfter
+    undone-all m =
+        ap (λ (u : ℕ). undone journal (u - (length os + 1)) (length os) m) (sym (used-is M (reply ∷ h))) ∙ undone-is os (stepsAfter M h) rest m
+
+    memory-is : undone journal (firstEntry (positionAt M (at (reply ∷ h))) (length os)) (length os) (take (2 * count M) (cellsAfter M (reply ∷ h) ++ past))
+        ++ drop (2 * count M) (cellsAfter M (reply ∷ h) ++ past) ≡ cellsAfter M h ++ past
+    unfolding cellsAfter
     memory-is =
-        let ws : List Write = writesAt M h reply in
-        rw (cells-taken started (reply ∷ h), past-left started (reply ∷ h), first-is, journal-parted M reply h rest)
-        (ap (λ (m : List ℕ). m ++ past) (undo-log (journalAt M h) (closing (length ws) ++ rest) (cellsAt M h) ws (usedAt M h) (length-journalAt M h)))
+        ap₂ (λ (a b : List ℕ). a ++ b)
+        (undone-all (take (2 * count M) (cellsAfter M (reply ∷ h) ++ past))
+        ∙ ap (λ (m : List ℕ). restored m os) (cells-taken started (reply ∷ h))
+        ∙ restored-olds (cellsAfter M h) (writesAfter M h reply))
+        (past-left started (reply ∷ h))
 
-    pub back-last : backTables (M .tables) (cellsAt M (reply ∷ h) ++ past) (journalAt M (reply ∷ h) ++ rest) (positionAt M (reply ∷ h))
-        ≡ backed (Moved (positionAt M h)) (cellsAt M h ++ past)
+    pub back-last : backTables (M .tables) (cellsAfter M (reply ∷ h) ++ past) journal (positionAt M (at (reply ∷ h)))
+        ≡ backed (Moved (positionAt M (at h))) (cellsAfter M h ++ past)
     unfolding backTables backLeaves
     back-last =
-        ap (backLeaves (2 * count M) (cellsAt M (reply ∷ h) ++ past) (journalAt M (reply ∷ h) ++ rest) (positionAt M (reply ∷ h))) back-look
+        ap (backLeaves (2 * count M) (cellsAfter M (reply ∷ h) ++ past) journal (positionAt M (at (reply ∷ h)))) back-look
         ∙ (λ i. record { answer = Moved (position-is i); memory = memory-is i })
 
     -- its entries lie past the used part again
-    pub back-within : Within M words h (log (cellsAt M h) (writesAt M h reply) ++ (closing (length (writesAt M h reply)) ++ rest))
+    pub back-within : Within M (at h) (log (cellsAfter M h) (writesAfter M h reply) ++ (closing (length (writesAfter M h reply)) ++ rest))
     back-within = record { steps = le-of-lt (w .steps); size = ap length (sym (journal-parted M reply h rest)) ∙ w .size }

@@ -1,6 +1,7 @@
--- A forward on a reached session: its answer and what it leaves are the replay machine's, its answer is never 18, and it changes only cells that its row may change.
+-- A forward on a reached session: its answer and what it leaves are the replay machine's, its answer is never 18, and on a CALL it changes only cells of the write set.
 -- Assumes nothing.
 use Prim.Native.Nat.{ℕ, _+_, _*_, _<_, _≤_}
+use mathlib.Core.Bool.{true, false≢true}
 use mathlib.Core.Logic.{_≢_}
 use mathlib.Core.List.{List, _∷_, _++_}
 use mathlib.Core.Path.{_≡_, refl, sym, ap, ap₂, _∙_}
@@ -9,6 +10,7 @@ use native.Mathlib.Omega.{arith}
 use lib.ListN.{length, take, drop}
 use Rattle.tables.specs.Outcome.{Outcome, ok, refuse, _>>=_, _>>_, need}
 use Rattle.tables.specs.Rows.{instructionAt}
+use Rattle.tables.specs.declared.rows.Instruction.{Instruction}
 use Rattle.journal.specs.declared.cells.Write.{Write}
 use Rattle.journal.specs.Cells.{held, applied}
 use Rattle.journal.specs.Each.{Each}
@@ -16,112 +18,131 @@ use Rattle.journal.specs.Entries.{log, closing, journaled}
 use Rattle.journal.specs.Position.{advanced}
 use Rattle.journal.proofs.CellsLaws.{each-map, held-applied}
 use Rattle.journal.proofs.EntriesLaws.{length-journaled, journaled-between}
+use Rattle.machine.specs.Outcome.{isCall}
+use Rattle.session.specs.Prepare.{entriesOf}
 use Rattle.session.specs.Forward.{rowLook, forwardLook, left, leaves, forwardTables}
 use Rattle.session.specs.declared.answer.StepAnswer.the-variants.{Moved}
-use Rattle.soundness.specs.Sound.{GoodWrite, MayChange}
-use Rattle.sequence.specs.Replay.{Machine, History, rowAt, made, cellsAt, usedAt, positionAt, replayLook, forwardAnswer, forwardHistory}
-use Rattle.sequence.specs.Claim.{Ruled}
+use Rattle.soundness.specs.Sound.{GoodWrite}
+use Rattle.sequence.specs.Calls.{stepped}
+use Rattle.sequence.specs.Replay.{Machine, State, made, cellsAfter, writesAfter, usedAfter, rowAt, cellsAt, usedAt, positionAt, replayLook, replayed, stepAnswer, nextState}
+use Rattle.sequence.specs.Journal.{journalAfter, journalAt}
+use Rattle.sequence.specs.Claim.{Ruled, Spared}
 use Rattle.sequence.proofs.Looks.{Steps, steps, unruled, same-look}
-use Rattle.sequence.proofs.Reached.{writesAt, journalAt, length-journalAt, journal-parted, count, rows, Started, Within, typedAt, goodAt, cells-taken, past-left, held-among, spent, prepared-at, position-fits}
+use Rattle.sequence.proofs.Reached.{length-journal, journal-parted, count, rows, Started, Within, typed-after, good-after, cells-taken, past-left, held-among, spent, prepared-at, position-fits}
 
-module _ {M : Machine} {past : List ℕ} {words : ℕ} (started : Started M past words) where
+-- "its reply joins the history"
+abbrev pub joined : State → List ℕ → State
+joined s reply = record { history = reply ∷ s .history }
+
+abbrev pub joins : State → List ℕ → Outcome (List Write) → Outcome State
+joins s reply o = o >>= (λ ws. ok (joined s reply))
+
+module _ {M : Machine} {past : List ℕ} (started : Started M past) where
   -- ---- the looks
 
-  forward-look : (h : History) (rest reply : List ℕ) → Within M words h rest
-      → forwardLook (M .tables) (cellsAt M h ++ past) (length (journalAt M h ++ rest)) (positionAt M h) reply ≡ replayLook M h reply
+  forward-look : (s : State) (rest reply : List ℕ) → Within M s rest
+      → forwardLook (M .tables) (cellsAt M s ++ past) (length (journalAt M s ++ rest)) (positionAt M s) reply ≡ replayLook M s reply
   unfolding forwardLook rowLook _>>=_ _>>_ need
-  forward-look h rest reply w =
-      rw (prepared-at started w, position-fits started w, cells-taken started h, w .size, ← started .entries)
-      (same-look M h reply (omega (arith, spent started w, started .entries)))
+  forward-look s rest reply w =
+      rw (prepared-at started w, position-fits started w, cells-taken started (s .history), w .size)
+      (same-look M (started .prepared) s reply (omega (arith, spent started w)))
 
   -- ---- what it leaves, by what the looks gave
 
-  pub record Forwarded (h : History) (rest reply : List ℕ) (o : Outcome (List Write)) : Type 0 where
+  pub record Forwarded (s : State) (rest reply : List ℕ) (o : Outcome (List Write)) : Type 0 where
     pub rest′ : List ℕ
-    pub leaves-is : leaves (2 * count M) (cellsAt M h ++ past) (journalAt M h ++ rest) (positionAt M h) o
-        ≡ left (forwardAnswer M h reply o) (cellsAt M (forwardHistory M h reply o) ++ past) (journalAt M (forwardHistory M h reply o) ++ rest′)
-    pub within : Within M words (forwardHistory M h reply o) rest′
+    pub leaves-is : leaves (2 * count M) (cellsAt M s ++ past) (journalAt M s ++ rest) (positionAt M s) o
+        ≡ left (stepAnswer M s (joins s reply o)) (cellsAt M (nextState s (joins s reply o)) ++ past) (journalAt M (nextState s (joins s reply o)) ++ rest′)
+    pub within : Within M (nextState s (joins s reply o)) rest′
 
-  module _ (h : History) (rest reply : List ℕ) (w : Within M words h rest) (ws : List Write) (e : replayLook M h reply ≡ ok ws) where
-    made-is : ws ≡ writesAt M h reply
-    made-is = let s = steps M h reply ws e in sym (ap made (s .outcome))
+  module _ (s : State) (rest reply : List ℕ) (w : Within M s rest) (ws : List Write) (e : replayLook M s reply ≡ ok ws) where
+    seen : Steps M (started .prepared) s reply ws
+    seen = steps M (started .prepared) s reply ws e
 
-    position-is : advanced (positionAt M h) (length ws) ≡ positionAt M (reply ∷ h)
-    unfolding usedAt
-    position-is = λ i. record { done = add-one (length h) i; used = usedAt M h + (length (made-is i) + 1) }
+    made-is : ws ≡ writesAfter M (s .history) reply
+    made-is = sym (ap made (seen .outcome-is))
 
-    memory-is : applied (take (2 * count M) (cellsAt M h ++ past)) ws ++ drop (2 * count M) (cellsAt M h ++ past) ≡ cellsAt M (reply ∷ h) ++ past
-    unfolding cellsAt
+    position-is : advanced (positionAt M s) (length ws) ≡ positionAt M (joined s reply)
+    unfolding usedAfter
+    position-is = λ i. record { done = add-one (length (s .history)) i; used = usedAt M s + (length (made-is i) + 1) }
+
+    memory-is : applied (take (2 * count M) (cellsAt M s ++ past)) ws ++ drop (2 * count M) (cellsAt M s ++ past) ≡ cellsAt M (joined s reply) ++ past
+    unfolding cellsAfter
     memory-is =
-        ap₂ (λ (a b : List ℕ). applied a ws ++ b) (cells-taken started h) (past-left started h)
-        ∙ ap (λ (v : List Write). applied (cellsAt M h) v ++ past) made-is
+        ap₂ (λ (a b : List ℕ). applied a ws ++ b) (cells-taken started (s .history)) (past-left started (s .history))
+        ∙ ap (λ (v : List Write). applied (cellsAt M s) v ++ past) made-is
 
-    journal-is : journaled (journalAt M h ++ rest) (usedAt M h) (take (2 * count M) (cellsAt M h ++ past)) ws
-        ≡ journalAt M (reply ∷ h) ++ drop (3 * (length ws + 1)) rest
+    journal-is : journaled (journalAt M s ++ rest) (usedAt M s) (take (2 * count M) (cellsAt M s ++ past)) ws
+        ≡ journalAt M (joined s reply) ++ drop (3 * (length ws + 1)) rest
     journal-is =
-        let s = steps M h reply ws e in
-        let fits : 3 * (length ws + 1) ≤ length rest = omega (arith, spent started w, s .room, started .entries) in
+        let fits : 3 * (length ws + 1) ≤ length rest = omega (arith, spent started w, seen .fits) in
         let rest′ : List ℕ = drop (3 * (length ws + 1)) rest in
-        ap (λ (m : List ℕ). journaled (journalAt M h ++ rest) (usedAt M h) m ws) (cells-taken started h)
-        ∙ journaled-between (journalAt M h) rest (usedAt M h) (cellsAt M h) ws (length-journalAt M h) fits
-        ∙ ap (λ (v : List Write). journalAt M h ++ (log (cellsAt M h) v ++ (closing (length v) ++ rest′))) made-is
-        ∙ sym (journal-parted M reply h rest′)
+        ap (λ (m : List ℕ). journaled (journalAt M s ++ rest) (usedAt M s) m ws) (cells-taken started (s .history))
+        ∙ journaled-between (journalAt M s) rest (usedAt M s) (cellsAt M s) ws (length-journal M (s .history)) fits
+        ∙ ap (λ (v : List Write). journalAt M s ++ (log (cellsAt M s) v ++ (closing (length v) ++ rest′))) made-is
+        ∙ sym (journal-parted M reply (s .history) rest′)
 
-    stepped : Forwarded h rest reply (ok ws)
-    unfolding leaves
-    stepped =
-        let s = steps M h reply ws e in
-        record {
-          rest′ = drop (3 * (length ws + 1)) rest;
-          leaves-is = λ i. record { answer = Moved (position-is i); memory = memory-is i; journal = journal-is i };
-          within = record {
-            steps = s .row;
-            size = ap length (sym journal-is) ∙ length-journaled (journalAt M h ++ rest) (usedAt M h) (take (2 * count M) (cellsAt M h ++ past)) ws ∙ w .size;
-          };
-        }
+    moved : Forwarded s rest reply (ok ws)
+    unfolding leaves _>>=_
+    moved = record {
+      rest′ = drop (3 * (length ws + 1)) rest;
+      leaves-is = λ i. record { answer = Moved (position-is i); memory = memory-is i; journal = journal-is i };
+      within = record {
+        steps = seen .row;
+        size = ap length (sym journal-is) ∙ length-journaled (journalAt M s ++ rest) (usedAt M s) (take (2 * count M) (cellsAt M s ++ past)) ws ∙ w .size;
+      };
+    }
 
-  forwarded-by : (h : History) (rest reply : List ℕ) → Within M words h rest → (o : Outcome (List Write)) → replayLook M h reply ≡ o → Forwarded h rest reply o
-  unfolding leaves
-  forwarded-by h rest reply w (refuse n) e = record { rest′ = rest; leaves-is = refl; within = w }
-  forwarded-by h rest reply w (ok ws) e = stepped h rest reply w ws e
+  forwarded-by : (s : State) (rest reply : List ℕ) → Within M s rest → (o : Outcome (List Write)) → replayLook M s reply ≡ o → Forwarded s rest reply o
+  unfolding leaves _>>=_
+  forwarded-by s rest reply w (refuse n) e = record { rest′ = rest; leaves-is = refl; within = w }
+  forwarded-by s rest reply w (ok ws) e = moved s rest reply w ws e
 
-  pub forwarded : (h : History) (rest reply : List ℕ) → Within M words h rest → Forwarded h rest reply (replayLook M h reply)
-  forwarded h rest reply w = forwarded-by h rest reply w (replayLook M h reply) refl
+  pub forwarded : (s : State) (rest reply : List ℕ) → Within M s rest → Forwarded s rest reply (replayLook M s reply)
+  forwarded s rest reply w = forwarded-by s rest reply w (replayLook M s reply) refl
 
-  pub forward-leaves : (h : History) (rest reply : List ℕ) → Within M words h rest
-      → forwardTables (M .tables) (cellsAt M h ++ past) (journalAt M h ++ rest) (positionAt M h) reply
-      ≡ leaves (2 * count M) (cellsAt M h ++ past) (journalAt M h ++ rest) (positionAt M h) (replayLook M h reply)
+  pub forward-leaves : (s : State) (rest reply : List ℕ) → Within M s rest
+      → forwardTables (M .tables) (cellsAt M s ++ past) (journalAt M s ++ rest) (positionAt M s) reply
+      ≡ leaves (2 * count M) (cellsAt M s ++ past) (journalAt M s ++ rest) (positionAt M s) (replayLook M s reply)
   unfolding forwardTables
-  forward-leaves h rest reply w =
-      ap (leaves (2 * count M) (cellsAt M h ++ past) (journalAt M h ++ rest) (positionAt M h)) (forward-look h rest reply w)
+  forward-leaves s rest reply w =
+      ap (leaves (2 * count M) (cellsAt M s ++ past) (journalAt M s ++ rest) (positionAt M s)) (forward-look s rest reply w)
 
-  -- ---- "no call meets an operand without a rule"
+  -- ---- "No call in it met an operand without a rule"
 
-  ruled-by : (h : History) (reply : List ℕ) → length h ≤ rows M → (o : Outcome (List Write)) → replayLook M h reply ≡ o → Ruled (forwardAnswer M h reply o)
-  ruled-by h reply l (ok ws) e = tt
-  ruled-by h reply l (refuse n) e = λ z.
-      let u = unruled M h reply (e ∙ ap refuse z) in
-      started .sound .ruled (cellsAt M h) (rowAt h) reply (typedAt started h l) (u .row) (u .outcome)
+  ruled-by : (s : State) (reply : List ℕ) → length (s .history) ≤ rows M → (o : Outcome (List Write)) → replayLook M s reply ≡ o
+      → Ruled (stepped (stepAnswer M s (joins s reply o)))
+  unfolding _>>=_
+  ruled-by s reply l (ok ws) e = omega arith
+  ruled-by s reply l (refuse n) e = λ z.
+      let u = unruled M (started .prepared) s reply (e ∙ ap refuse z) in
+      started .sound .ruled (cellsAt M s) (rowAt M s) reply (typed-after started (s .history) l) (u .row) (u .outcome-is)
 
-  pub forward-ruled : (h : History) (reply : List ℕ) → length h ≤ rows M → Ruled (forwardAnswer M h reply (replayLook M h reply))
-  forward-ruled h reply l = ruled-by h reply l (replayLook M h reply) refl
+  pub forward-ruled : (s : State) (reply : List ℕ) → length (s .history) ≤ rows M → Ruled (stepped (stepAnswer M s (joins s reply (replayLook M s reply))))
+  forward-ruled s reply l = ruled-by s reply l (replayLook M s reply) refl
 
-  -- ---- "a CALL changes only cells of its write set"
+  -- ---- "a CALL changed only cells of regions in its write set"
 
-  kept-by : (h : History) (reply : List ℕ) (o : Outcome (List Write)) → replayLook M h reply ≡ o
-      → (c : ℕ) → c < count M → (MayChange (M .tables) (instructionAt (M .tables .instructions) (rowAt h)) c → ⊥)
-      → held (cellsAt M (forwardHistory M h reply o) ++ past) c ≡ held (cellsAt M h ++ past) c
-  unfolding cellsAt
-  kept-by h reply (refuse n) e c l never = refl
-  kept-by h reply (ok ws) e c l never =
-      let s = steps M h reply ws e in
-      let apart : Each (λ w. c ≢ w .cell) (writesAt M h reply) =
-      each-map (λ (w : Write) (g : GoodWrite (M .tables) (instructionAt (M .tables .instructions) (rowAt h)) w) (same : c ≡ w .cell). never (rw same (g .allowed)))
-      (goodAt started h reply (s .row)) in
-      held-among started (reply ∷ h) c l
-      ∙ held-applied (cellsAt M h) (writesAt M h reply) c apart
-      ∙ sym (held-among started h c l)
+  module _ (s : State) (reply : List ℕ) (call : isCall (instructionAt (M .tables .instructions) (rowAt M s)) ≡ true) (c : ℕ) (l : c < count M)
+      (spared : Spared (M .tables) (instructionAt (M .tables .instructions) (rowAt M s)) c) where
+    abbrev x : Instruction
+    x = instructionAt (M .tables .instructions) (rowAt M s)
 
-  pub forward-kept : (h : History) (reply : List ℕ) (c : ℕ) → c < count M → (MayChange (M .tables) (instructionAt (M .tables .instructions) (rowAt h)) c → ⊥)
-      → held (cellsAt M (forwardHistory M h reply (replayLook M h reply)) ++ past) c ≡ held (cellsAt M h ++ past) c
-  forward-kept h reply = kept-by h reply (replayLook M h reply) refl
+    -- a write of the row is not to that cell
+    apart : (w : Write) → GoodWrite (M .tables) x w → c ≢ w .cell
+    apart w g same =
+        let reached = rw (← same) at (g .allowed call) in
+        false≢true (sym (spared (reached .region) (reached .cell)) ∙ reached .named)
+
+    kept-by : (o : Outcome (List Write)) → replayLook M s reply ≡ o
+        → held (cellsAt M (nextState s (joins s reply o)) ++ past) c ≡ held (cellsAt M s ++ past) c
+    unfolding cellsAfter _>>=_
+    kept-by (refuse n) e = refl
+    kept-by (ok ws) e =
+        let seen = steps M (started .prepared) s reply ws e in
+        held-among started (reply ∷ s .history) c l
+        ∙ held-applied (cellsAt M s) (writesAfter M (s .history) reply) c (each-map apart (good-after started (s .history) reply (seen .row)))
+        ∙ sym (held-among started (s .history) c l)
+
+    pub forward-kept : held (cellsAt M (nextState s (joins s reply (replayLook M s reply))) ++ past) c ≡ held (cellsAt M s ++ past) c
+    forward-kept = kept-by (replayLook M s reply) refl

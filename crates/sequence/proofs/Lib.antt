@@ -1,3 +1,4 @@
+pub mod Stack
 pub mod Looks
 pub mod Opened
 pub mod Reached

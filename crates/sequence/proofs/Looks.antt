@@ -2,7 +2,7 @@
 use Prim.Native.Nat.{ℕ, _+_, _-_, _<_, _≤_}
 use mathlib.Core.Bool.{Bool, true, false}
 use mathlib.Core.List.{List}
-use mathlib.Core.Path.{_≡_, refl, ap, subst}
+use mathlib.Core.Path.{_≡_, refl, sym, ap, _∙_, subst}
 use native.Mathlib.Omega.{arith}
 use lib.Dec.{ltb, leb}
 use lib.ListN.{length}
@@ -14,11 +14,12 @@ use Rattle.loader.proofs.Loaded.{passed}
 use Rattle.journal.specs.declared.cells.Write.{Write}
 use Rattle.machine.specs.Outcome.{outcomeAt}
 use Rattle.operands.proofs.Binds.{bound}
+use Rattle.session.specs.Prepare.{entriesOf}
 use Rattle.session.specs.Forward.{roomFor, stepLook}
-use Rattle.sequence.specs.Replay.{Machine, History, rowAt, cellsAt, usedAt, positionAt, replayLook}
+use Rattle.sequence.specs.Replay.{Machine, State, rowAt, cellsAt, usedAt, positionAt, looksFirst, replayLook}
 
 -- a refusal k of a look that is not refused with k itself
-passed-over : {B : Type 0} (b : Bool) (n k : ℕ) (s : Outcome B) → (n ≡ k → ⊥) → (need b n >> s) ≡ refuse k → (b ≡ true) × (s ≡ refuse k)
+pub passed-over : {B : Type 0} (b : Bool) (n k : ℕ) (s : Outcome B) → (n ≡ k → ⊥) → (need b n >> s) ≡ refuse k → (b ≡ true) × (s ≡ refuse k)
 unfolding _>>_ need
 passed-over true n k s ne e = (refl, e)
 passed-over false n k s ne e = absurd (ne (cc))
@@ -28,53 +29,69 @@ unfolding _>>=_
 bound-over (ok a) f k never e = absurd (never a e)
 bound-over (refuse n) f k never e = cc
 
--- ---- what the replay machine's looks have seen
+-- what comes after is the same
+pub bind-same : {A B : Type 0} (s : Outcome A) (f g : A → Outcome B) → ((a : A) → f a ≡ g a) → (s >>= f) ≡ (s >>= g)
+unfolding _>>=_
+bind-same (ok a) f g same = same a
+bind-same (refuse n) f g same = refl
 
-module _ (M : Machine) (h : History) (reply : List ℕ) where
+-- ---- where the first looks refuse nothing
+
+module _ (M : Machine) {n : ℕ} (prepared : looksFirst M ≡ ok n) (s : State) (reply : List ℕ) where
+  abbrev here : Bool
+  here = ltb (rowAt M s) (instructionRows (M .tables .instructions))
+
+  abbrev outcome : Outcome (List Write)
+  outcome = outcomeAt (M .tables) (cellsAt M s) (rowAt M s) reply
+
+  abbrev room : List Write → Bool
+  room ws = leb (usedAt M s + (length ws + 1)) (entriesOf (M .journalWords))
+
+  -- 11, the row's, 13
+  look-is : replayLook M s reply ≡ (need here atEnd >> (outcome >>= (λ ws. need (room ws) journalFull >> ok ws)))
+  unfolding replayLook _>>_
+  look-is = rw prepared
+
+  -- ---- what they have seen, by what they gave
+
   pub record Steps (ws : List Write) : Type 0 where
-    pub row : rowAt h < instructionRows (M .tables .instructions)
-    pub outcome : outcomeAt (M .tables) (cellsAt M h) (rowAt h) reply ≡ ok ws
-    pub room : usedAt M h + (length ws + 1) ≤ M .entries
+    pub row : rowAt M s < instructionRows (M .tables .instructions)
+    pub outcome-is : outcome ≡ ok ws
+    pub fits : usedAt M s + (length ws + 1) ≤ entriesOf (M .journalWords)
 
-  pub steps : (ws : List Write) → replayLook M h reply ≡ ok ws → Steps ws
-  unfolding replayLook
+  pub steps : (ws : List Write) → replayLook M s reply ≡ ok ws → Steps ws
   steps ws e =
-      let (here, e₁) = passed (ltb (rowAt h) (instructionRows (M .tables .instructions))) _ _ _ e in
-      let b = bound (outcomeAt (M .tables) (cellsAt M h) (rowAt h) reply) _ ws e₁ in
-      let (fits, e₂) = passed (leb (usedAt M h + (length (b .value) + 1)) (M .entries)) _ _ _ (b .rest) in
+      let (here-is, e₁) = passed here _ _ _ (sym look-is ∙ e) in
+      let b = bound outcome _ ws e₁ in
+      let (fits, e₂) = passed (room (b .value)) _ _ _ (b .rest) in
       let same : b .value ≡ ws = cc in
       let given = b .given in
       record {
-        row = ltb-true (rowAt h) (instructionRows (M .tables .instructions)) here;
-        outcome = cc;
-        room = subst (λ (vs : List Write). usedAt M h + (length vs + 1) ≤ M .entries) same (leb-true (usedAt M h + (length (b .value) + 1)) (M .entries) fits);
+        row = ltb-true (rowAt M s) (instructionRows (M .tables .instructions)) here-is;
+        outcome-is = cc;
+        fits = subst (λ (vs : List Write). usedAt M s + (length vs + 1) ≤ entriesOf (M .journalWords)) same
+            (leb-true (usedAt M s + (length (b .value) + 1)) (entriesOf (M .journalWords)) fits);
       }
 
   pub record Unruled : Type 0 where
-    pub row : rowAt h < instructionRows (M .tables .instructions)
-    pub outcome : outcomeAt (M .tables) (cellsAt M h) (rowAt h) reply ≡ refuse noRule
+    pub row : rowAt M s < instructionRows (M .tables .instructions)
+    pub outcome-is : outcome ≡ refuse noRule
 
   -- 11 and 13 are no 18
-  room-ruled : (ws : List Write) → (need (leb (usedAt M h + (length ws + 1)) (M .entries)) journalFull >> ok ws) ≡ refuse noRule → ⊥
+  room-ruled : (ws : List Write) → (need (room ws) journalFull >> ok ws) ≡ refuse noRule → ⊥
   room-ruled ws e =
-      let (f, e₁) = passed-over (leb (usedAt M h + (length ws + 1)) (M .entries)) journalFull noRule (ok ws) (omega arith) e in
+      let (f, e₁) = passed-over (room ws) journalFull noRule (ok ws) (omega arith) e in
       let z : _≡_ {A = ℕ} 0 1 = cc in omega arith
 
-  pub unruled : replayLook M h reply ≡ refuse noRule → Unruled
-  unfolding replayLook
+  pub unruled : replayLook M s reply ≡ refuse noRule → Unruled
   unruled e =
-      let (here, e₁) = passed-over (ltb (rowAt h) (instructionRows (M .tables .instructions))) atEnd noRule _ (omega arith) e in
+      let (here-is, e₁) = passed-over here atEnd noRule _ (omega arith) (sym look-is ∙ e) in
       record {
-        row = ltb-true (rowAt h) (instructionRows (M .tables .instructions)) here;
-        outcome = bound-over (outcomeAt (M .tables) (cellsAt M h) (rowAt h) reply) _ noRule room-ruled e₁;
+        row = ltb-true (rowAt M s) (instructionRows (M .tables .instructions)) here-is;
+        outcome-is = bound-over outcome _ noRule room-ruled e₁;
       }
 
   -- ---- they are the session's, whose 13 takes the used entries away first
-
-  bind-same : {A B : Type 0} (s : Outcome A) (f g : A → Outcome B) → ((a : A) → f a ≡ g a) → (s >>= f) ≡ (s >>= g)
-  unfolding _>>=_
-  bind-same (ok a) f g same = same a
-  bind-same (refuse n) f g same = refl
 
   room-same : (n used entries : ℕ) → used ≤ entries → leb (n + 1) (entries - used) ≡ leb (used + (n + 1)) entries
   room-same n used entries l = at (leb (used + (n + 1)) entries) refl
@@ -83,9 +100,10 @@ module _ (M : Machine) (h : History) (reply : List ℕ) where
       at true e = let q : used + (n + 1) ≤ entries = leb-true (used + (n + 1)) entries e in le-leb (n + 1) (entries - used) (omega arith)
       at false e = let q : entries < used + (n + 1) = leb-false (used + (n + 1)) entries e in lt-leb (n + 1) (entries - used) (omega arith)
 
-  pub same-look : usedAt M h ≤ M .entries → stepLook (M .tables) (cellsAt M h) (M .entries) (positionAt M h) reply ≡ replayLook M h reply
-  unfolding stepLook roomFor replayLook
+  pub same-look : usedAt M s ≤ entriesOf (M .journalWords)
+      → stepLook (M .tables) (cellsAt M s) (entriesOf (M .journalWords)) (positionAt M s) reply ≡ replayLook M s reply
+  unfolding stepLook roomFor
   same-look l =
-      ap (λ s. need (ltb (rowAt h) (instructionRows (M .tables .instructions))) atEnd >> s)
-      (bind-same (outcomeAt (M .tables) (cellsAt M h) (rowAt h) reply) _ _
-      (λ ws. ap (λ b. need b journalFull >> ok ws) (room-same (length ws) (usedAt M h) (M .entries) l)))
+      ap (λ o. need here atEnd >> o)
+      (bind-same outcome _ _ (λ ws. ap (λ b. need b journalFull >> ok ws) (room-same (length ws) (usedAt M s) (entriesOf (M .journalWords)) l)))
+      ∙ sym look-is

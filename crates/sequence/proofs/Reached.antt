@@ -1,8 +1,8 @@
--- The sessions that are reached: the replay machine at a history, laid out in the lent buffers. Their cells keep the declared kinds, their lengths never change,
+-- The sessions that are reached: the replay machine at a state, laid out in the lent buffers. Their cells keep the declared kinds, their lengths never change,
 -- and forward's and back's looks before 11 and 12 refuse nothing on them. Assumes nothing.
 use Prim.Native.Nat.{ℕ, _+_, _*_, _<_, _≤_}
-use mathlib.Core.List.{List, [], _∷_, _++_, append-assoc}
-use mathlib.Core.Path.{_≡_, refl, _∙_}
+use mathlib.Core.List.{List, [], _∷_, _++_}
+use mathlib.Core.Path.{_≡_, refl, sym, ap, _∙_, subst}
 use native.Mathlib.Nat.{le-of-lt}
 use native.Mathlib.Omega.{arith}
 use lib.ListN.{List·getD-append, length, take, drop, length-append}
@@ -15,40 +15,45 @@ use Rattle.tables.specs.Cells.{cellCount}
 use Rattle.journal.specs.declared.cells.Write.{Write}
 use Rattle.journal.specs.Cells.{held}
 use Rattle.journal.specs.Each.{Each, none}
-use Rattle.journal.specs.Entries.{log, closing}
+use Rattle.journal.specs.Entries.{flatten, olds, log, closing}
+use Rattle.journal.specs.Restore.{present}
 use Rattle.journal.proofs.CellsLaws.{each-map, length-applied, applied-each}
-use Rattle.journal.proofs.EntriesLaws.{length-step}
+use Rattle.journal.proofs.EntriesLaws.{length-olds, entries-log}
+use Rattle.journal.proofs.RestoreLaws.{present-log}
 use Rattle.machine.specs.Outcome.{outcomeAt}
 use Rattle.session.specs.Prepare.{entriesOf, preparedOf}
 use Rattle.session.specs.Forward.{positionFits}
 use Rattle.soundness.specs.Sound.{Fits, Typed, GoodWrite, Sound}
 use Rattle.sequence.specs.Calls.{Session}
-use Rattle.sequence.specs.Replay.{Machine, History, rowAt, made, cellsAt, usedAt, positionAt}
+use Rattle.sequence.specs.Replay.{Machine, History, State, made, rowAfter, cellsAfter, writesAfter, usedAfter, cellsAt, usedAt, positionAt, looksFirst}
+use Rattle.sequence.specs.Journal.{stacked, usedBy, stepsAfter, journalAfter, journalAt}
+use Rattle.sequence.proofs.Stack.{length-stacked, stacked-parted}
 
 -- ---- the journal of a history
 
--- the writes of the step that a reply adds to a history
-abbrev pub writesAt : Machine → History → List ℕ → List Write
-writesAt M h reply = made (outcomeAt (M .tables) (cellsAt M h) (rowAt h) reply)
+module _ (M : Machine) where
+  -- the old values of the step that a reply adds to a history
+  abbrev pub oldsAfter : History → List ℕ → List Write
+  oldsAfter h reply = olds (cellsAfter M h) (writesAfter M h reply)
 
--- the used part of the journal
-unfoldable pub journalAt : Machine → History → List ℕ
-journalAt M [] = []
-journalAt M (reply ∷ h) = journalAt M h ++ (log (cellsAt M h) (writesAt M h reply) ++ closing (length (writesAt M h reply)))
+  pub length-oldsAfter : (h : History) (reply : List ℕ) → length (oldsAfter h reply) ≡ length (writesAfter M h reply)
+  length-oldsAfter h reply = length-olds (cellsAfter M h) (writesAfter M h reply)
 
-pub length-journalAt : (M : Machine) (h : History) → length (journalAt M h) ≡ 3 * usedAt M h
-unfolding journalAt usedAt
-length-journalAt M [] = refl
-length-journalAt M (reply ∷ h) =
-    let ws : List Write = writesAt M h reply in
-    let step : List ℕ = log (cellsAt M h) ws ++ closing (length ws) in
-    omega (arith, length-append (journalAt M h) step, length-step (cellsAt M h) ws, length-journalAt M h)
+  pub used-is : (h : History) → usedBy (stepsAfter M h) ≡ usedAfter M h
+  unfolding usedBy stepsAfter usedAfter
+  used-is [] = refl
+  used-is (reply ∷ h) = let e = length-oldsAfter h reply in omega (arith, used-is h)
 
--- the last step's entries, parted from what stands before them
-pub journal-parted : (M : Machine) (reply : List ℕ) (h : History) (rest : List ℕ)
-    → journalAt M (reply ∷ h) ++ rest ≡ journalAt M h ++ (log (cellsAt M h) (writesAt M h reply) ++ (closing (length (writesAt M h reply)) ++ rest))
-unfolding journalAt
-journal-parted M reply h rest = simp append-assoc
+  pub length-journal : (h : History) → length (journalAfter M h) ≡ 3 * usedAfter M h
+  length-journal h = length-stacked (stepsAfter M h) ∙ ap (λ (n : ℕ). 3 * n) (used-is h)
+
+  -- the last step's entries, parted from what stands before them
+  pub journal-parted : (reply : List ℕ) (h : History) (rest : List ℕ)
+      → journalAfter M (reply ∷ h) ++ rest ≡ journalAfter M h ++ (log (cellsAfter M h) (writesAfter M h reply) ++ (closing (length (writesAfter M h reply)) ++ rest))
+  unfolding stepsAfter log
+  journal-parted reply h rest =
+      stacked-parted (oldsAfter h reply) (stepsAfter M h) rest
+      ∙ ap (λ (n : ℕ). journalAfter M h ++ (flatten (oldsAfter h reply) ++ (closing n ++ rest))) (length-oldsAfter h reply)
 
 -- ---- what an accepted open gives
 
@@ -58,75 +63,84 @@ count M = cellCount (M .tables .regions)
 abbrev pub rows : Machine → ℕ
 rows M = instructionRows (M .tables .instructions)
 
--- `past` lies behind the cells, and the journal has so many words
-pub record Started (M : Machine) (past : List ℕ) (words : ℕ) : Type 0 where
+-- the start cells have the declared kinds, `past` lies behind them, and the looks at the tables and the lengths refuse nothing
+pub record Started (M : Machine) (past : List ℕ) : Type 0 where
   pub sound : Sound (M .tables)
-  pub zero-cells : Typed (M .tables .regions) (M .zeros)
-  pub entries : M .entries ≡ entriesOf words
-  pub prepared : preparedOf (M .tables) (2 * count M + length past) words ≡ ok (count M)
+  pub typed : Typed (M .tables .regions) (M .startCells)
+  pub behind : 2 * count M + length past ≡ M .memoryWords
+  pub prepared : looksFirst M ≡ ok (count M)
 
--- the replay machine at the history h, with `past` behind the cells and `rest` in the journal past the used part
-abbrev pub sessionAt : Machine → List ℕ → History → List ℕ → Session
-sessionAt M past h rest = record { memory = cellsAt M h ++ past; journal = journalAt M h ++ rest; position = positionAt M h }
+-- the replay machine at a state, with `past` behind the cells and `rest` in the journal past the used part
+abbrev pub sessionAt : Machine → List ℕ → State → List ℕ → Session
+sessionAt M past s rest = record { memory = cellsAt M s ++ past; journal = journalAt M s ++ rest; position = positionAt M s }
 
--- the history is no longer than the program, and the journal has so many words
-pub record Within (M : Machine) (words : ℕ) (h : History) (rest : List ℕ) : Type 0 where
-  pub steps : length h ≤ rows M
-  pub size : length (journalAt M h ++ rest) ≡ words
+-- the history is no longer than the program, and the journal has its length
+pub record Within (M : Machine) (s : State) (rest : List ℕ) : Type 0 where
+  pub steps : length (s .history) ≤ rows M
+  pub size : length (journalAt M s ++ rest) ≡ M .journalWords
 
-module _ {M : Machine} {past : List ℕ} {words : ℕ} (started : Started M past words) where
+module _ {M : Machine} {past : List ℕ} (started : Started M past) where
   -- ---- the cells
 
-  good-made : (h : History) (reply : List ℕ) → rowAt h < rows M → Typed (M .tables .regions) (cellsAt M h)
-      → (o : Outcome (List Write)) → outcomeAt (M .tables) (cellsAt M h) (rowAt h) reply ≡ o
-      → Each (GoodWrite (M .tables) (instructionAt (M .tables .instructions) (rowAt h))) (made o)
+  good-made : (h : History) (reply : List ℕ) → rowAfter M h < rows M → Typed (M .tables .regions) (cellsAfter M h)
+      → (o : Outcome (List Write)) → outcomeAt (M .tables) (cellsAfter M h) (rowAfter M h) reply ≡ o
+      → Each (GoodWrite (M .tables) (instructionAt (M .tables .instructions) (rowAfter M h))) (made o)
   good-made h reply l f (refuse n) e = none
-  good-made h reply l f (ok ws) e = started .sound .good (cellsAt M h) (rowAt h) reply ws f l e
+  good-made h reply l f (ok ws) e = started .sound .good (cellsAfter M h) (rowAfter M h) reply ws f l e
 
-  pub typedAt : (h : History) → length h ≤ rows M → Typed (M .tables .regions) (cellsAt M h)
-  unfolding cellsAt
-  typedAt [] l = started .zero-cells
-  typedAt (reply ∷ h) l =
-      let f = typedAt h (le-of-lt l) in
-      let good = good-made h reply l f (outcomeAt (M .tables) (cellsAt M h) (rowAt h) reply) refl in
+  pub typed-after : (h : History) → length h ≤ rows M → Typed (M .tables .regions) (cellsAfter M h)
+  unfolding cellsAfter
+  typed-after [] l = started .typed
+  typed-after (reply ∷ h) l =
+      let f = typed-after h (le-of-lt l) in
+      let good = good-made h reply l f (outcomeAt (M .tables) (cellsAfter M h) (rowAfter M h) reply) refl in
       record {
-        wide = length-applied (cellsAt M h) (writesAt M h reply) ∙ f .wide;
-        each = applied-each (Fits (M .tables .regions)) (count M) (cellsAt M h) (writesAt M h reply) (omega (arith, f .wide)) (each-map (λ w g. (g .there, g .fits)) good) (f .each);
+        wide = length-applied (cellsAfter M h) (writesAfter M h reply) ∙ f .wide;
+        each = applied-each (Fits (M .tables .regions)) (count M) (cellsAfter M h) (writesAfter M h reply) (omega (arith, f .wide)) (each-map (λ w g. (g .there, g .fits)) good) (f .each);
       }
 
-  pub goodAt : (h : History) (reply : List ℕ) → rowAt h < rows M
-      → Each (GoodWrite (M .tables) (instructionAt (M .tables .instructions) (rowAt h))) (writesAt M h reply)
-  goodAt h reply l = good-made h reply l (typedAt h (le-of-lt l)) (outcomeAt (M .tables) (cellsAt M h) (rowAt h) reply) refl
+  pub good-after : (h : History) (reply : List ℕ) → rowAfter M h < rows M
+      → Each (GoodWrite (M .tables) (instructionAt (M .tables .instructions) (rowAfter M h))) (writesAfter M h reply)
+  good-after h reply l = good-made h reply l (typed-after h (le-of-lt l)) (outcomeAt (M .tables) (cellsAfter M h) (rowAfter M h) reply) refl
 
-  pub wide : (h : History) → length (cellsAt M h) ≡ 2 * count M
-  unfolding cellsAt
-  wide [] = started .zero-cells .wide
-  wide (reply ∷ h) = length-applied (cellsAt M h) (writesAt M h reply) ∙ wide h
+  -- the cells of a step's old values are there
+  pub present-after : (h : History) (reply : List ℕ) → rowAfter M h < rows M → present (count M) (oldsAfter M h reply) ≡ true
+  present-after h reply l =
+      let m : List ℕ = cellsAfter M h in
+      let ws : List Write = writesAfter M h reply in
+      subst (λ (os : List Write). present (count M) os ≡ true) (entries-log [] [] m ws 0 refl)
+      (present-log (count M) [] [] m ws 0 refl (each-map (λ w g. g .there) (good-after h reply l)))
 
-  pub cells-taken : (h : History) → take (2 * count M) (cellsAt M h ++ past) ≡ cellsAt M h
-  cells-taken h = take-at (cellsAt M h) past (2 * count M) (wide h)
+  pub wide : (h : History) → length (cellsAfter M h) ≡ 2 * count M
+  unfolding cellsAfter
+  wide [] = started .typed .wide
+  wide (reply ∷ h) = length-applied (cellsAfter M h) (writesAfter M h reply) ∙ wide h
 
-  pub past-left : (h : History) → drop (2 * count M) (cellsAt M h ++ past) ≡ past
-  past-left h = drop-at (cellsAt M h) past (2 * count M) (wide h)
+  pub cells-taken : (h : History) → take (2 * count M) (cellsAfter M h ++ past) ≡ cellsAfter M h
+  cells-taken h = take-at (cellsAfter M h) past (2 * count M) (wide h)
 
-  pub held-among : (h : History) (c : ℕ) → c < count M → held (cellsAt M h ++ past) c ≡ held (cellsAt M h) c
+  pub past-left : (h : History) → drop (2 * count M) (cellsAfter M h ++ past) ≡ past
+  past-left h = drop-at (cellsAfter M h) past (2 * count M) (wide h)
+
+  pub held-among : (h : History) (c : ℕ) → c < count M → held (cellsAfter M h ++ past) c ≡ held (cellsAfter M h) c
   held-among h c l = λ i. record {
     cell = c;
-    kind = List·getD-append (cellsAt M h) past 0 (2 * c) (omega (arith, wide h)) i;
-    word = List·getD-append (cellsAt M h) past 0 (2 * c + 1) (omega (arith, wide h)) i;
+    kind = List·getD-append (cellsAfter M h) past 0 (2 * c) (omega (arith, wide h)) i;
+    word = List·getD-append (cellsAfter M h) past 0 (2 * c + 1) (omega (arith, wide h)) i;
   }
 
   -- ---- what both calls look at first
 
-  module _ {h : History} {rest : List ℕ} (within : Within M words h rest) where
-    pub spent : 3 * usedAt M h + length rest ≡ words
-    spent = omega (arith, length-append (journalAt M h) rest, length-journalAt M h, within .size)
+  module _ {s : State} {rest : List ℕ} (within : Within M s rest) where
+    pub spent : 3 * usedAt M s + length rest ≡ M .journalWords
+    spent = omega (arith, length-append (journalAt M s) rest, length-journal M (s .history), within .size)
 
     -- 1, 2, 3, 10, 4
-    pub prepared-at : preparedOf (M .tables) (length (cellsAt M h ++ past)) (length (journalAt M h ++ rest)) ≡ ok (count M)
-    prepared-at = rw (length-append (cellsAt M h) past, wide h, within .size) (started .prepared)
+    pub prepared-at : preparedOf (M .tables) (length (cellsAt M s ++ past)) (length (journalAt M s ++ rest)) ≡ ok (count M)
+    prepared-at = rw (length-append (cellsAt M s) past, wide (s .history), started .behind, within .size) (started .prepared)
 
     -- 19
-    pub position-fits : positionFits (rows M) (entriesOf (length (journalAt M h ++ rest))) (positionAt M h) ≡ true
+    pub position-fits : positionFits (rows M) (entriesOf (length (journalAt M s ++ rest))) (positionAt M s) ≡ true
     unfolding positionFits
-    position-fits = rw (within .size, le-leb (length h) (rows M) (within .steps), le-leb (usedAt M h) (entriesOf words) (omega (arith, spent)))
+    position-fits =
+        rw (within .size, le-leb (length (s .history)) (rows M) (within .steps), le-leb (usedAt M s) (entriesOf (M .journalWords)) (omega (arith, spent)))

@@ -10,6 +10,10 @@ use Rattle.words.specs.Width.{lowBits, shlAt, ashrAt, shifted, shiftLeft, shift
 use Rattle.words.specs.Real.{size, realAboveEpsilon}
 use Rattle.tables.specs.Bench.{declarations}
 use Rattle.tables.specs.Cases.{caseOf}
+use Rattle.tables.specs.Family as family
+use Rattle.tables.specs.Operator as operator
+use Rattle.tables.specs.Source as source
+use Rattle.tables.specs.NodeTag as tag
 use Rattle.tables.specs.Outcome.{_>>=_, _>>_, need}
 use Rattle.tables.specs.First.{first, every}
 use Rattle.tables.specs.Tables.{Tables, tablesOf}
@@ -38,53 +42,63 @@ use Rattle.session_open.specs.Open.{noOther, callLook, callsLook, programLook, 
 use Rattle.session.specs.Forward.{positionFits, roomFor, stepLook, rowLook, forwardLook, leaves, forwardTables}
 use Rattle.session.specs.Back.{journalLook, takeBackLook, backLook, backLeaves, backTables}
 use Rattle.session.specs.declared.answer.OpenAnswer.{OpenAnswer}
-use Rattle.session.specs.declared.answer.StepAnswer.{StepAnswer}
-use Rattle.sequence.specs.Calls.{Call, Session, opened, answers, end}
+use Rattle.sequence.specs.Calls.{Call, Answer, Session, opened, answers, end}
 
--- ---- rows: family, operator, first name and index, second name and index, source form and words; every written index is 0
+-- ---- rows
 
-abbrev row : ℕ → ℕ → ℕ → ℕ → ℕ → ℕ → List ℕ
-row family operator first second form source = family ∷ operator ∷ first ∷ 0 ∷ second ∷ 0 ∷ form ∷ source ∷ 0 ∷ []
+-- family, operator, first name and index, second name, source form and first word; the second's and the source's index is 0
+abbrev row : ℕ → ℕ → ℕ → ℕ → ℕ → ℕ → ℕ → List ℕ
+row f op first index second form word = f ∷ op ∷ first ∷ index ∷ second ∷ 0 ∷ form ∷ word ∷ 0 ∷ []
+
+-- a row with a literal for the cell at index 0
+abbrev literal : ℕ → ℕ → ℕ → ℕ → ℕ → List ℕ
+literal f op destination form word = row f op destination 0 0 form word
 
 abbrev pub ADD-INTEGER : ℕ → ℕ → List ℕ
-ADD-INTEGER destination literal = row 0 0 destination 0 0 literal
+ADD-INTEGER destination word = literal family.arithmetic operator.add destination source.integerLiteral word
 
 abbrev pub ADD-REAL : ℕ → ℕ → List ℕ
-ADD-REAL destination bits = row 0 0 destination 0 1 bits
+ADD-REAL destination bits = literal family.arithmetic operator.add destination source.realLiteral bits
 
 abbrev pub DIV : ℕ → ℕ → List ℕ
-DIV destination literal = row 0 2 destination 0 0 literal
+DIV destination word = literal family.arithmetic operator.divide destination source.integerLiteral word
 
 abbrev pub SHL : ℕ → ℕ → List ℕ
-SHL destination literal = row 2 3 destination 0 0 literal
+SHL destination word = literal family.binaryLogic operator.shl destination source.integerLiteral word
 
 abbrev pub ASHR : ℕ → ℕ → List ℕ
-ASHR destination literal = row 2 5 destination 0 0 literal
+ASHR destination word = literal family.binaryLogic operator.ashr destination source.integerLiteral word
 
 abbrev pub MOVE : ℕ → ℕ → List ℕ
-MOVE destination literal = row 4 0 destination 0 0 literal
+MOVE destination word = literal family.move 0 destination source.integerLiteral word
+
+-- into the cell at an index
+abbrev pub MOVE-REAL : ℕ → ℕ → ℕ → List ℕ
+MOVE-REAL destination index bits = row family.move 0 destination index 0 source.realLiteral bits
 
 abbrev pub EXCHANGE : ℕ → ℕ → List ℕ
-EXCHANGE left right = row 5 0 left right 3 0
+EXCHANGE left right = row family.exchange 0 left 0 right source.none 0
 
+-- "6 load (second = source region, source = offset reference)"
 abbrev pub LOAD : ℕ → ℕ → ℕ → List ℕ
-LOAD destination source offset = row 6 0 destination source 2 offset
+LOAD destination region offset = row family.load 0 destination 0 region source.reference offset
 
+-- "7 store (first = destination region, second = offset)"
 abbrev pub STORE : ℕ → ℕ → ℕ → List ℕ
-STORE destination offset source = row 7 0 destination offset 2 source
+STORE region offset reference = row family.store 0 region 0 offset source.reference reference
 
--- a frame row whose expression is the one node of the table: a number with that imaginary part
+-- a frame row: "words 3 and 4 (counting from 1) are first node and node count". Its expression is the one node of the table, a number with that imaginary part.
 abbrev pub SET-PHASE : List ℕ
-SET-PHASE = 8 ∷ 1 ∷ 0 ∷ 1 ∷ 0 ∷ 0 ∷ 3 ∷ 0 ∷ 0 ∷ []
+SET-PHASE = row family.frame operator.setPhase 0 1 0 source.none 0
 
 abbrev pub number : ℕ → List ℕ
-number imaginary = 3 ∷ 0 ∷ imaginary ∷ []
+number imaginary = tag.number ∷ 0 ∷ imaginary ∷ []
 
 -- ---- a program, opened, and then the calls
 
 pub record Run : Type 0 where
   pub opening : OpenAnswer
-  pub steps : List StepAnswer
+  pub steps : List Answer
   pub memory : List ℕ
 
 -- The lent memory has two words for each of the eight cells, and the journal so many entries; both hold something else before. All that the calls rest on is unfolded.
@@ -107,6 +121,6 @@ run nodes program entries calls =
     let memory : List ℕ = replicate 16 9 in
     let journal : List ℕ = replicate (3 * entries) 9 in
     let s : Session = opened t memory journal in
-    let steps : List StepAnswer = answers t calls s in
+    let steps : List Answer = answers t calls s in
     let left : List ℕ = end t calls s .memory in
     record { opening = openTables t memory (length journal) .answer; steps = steps; memory = left }

@@ -4,16 +4,28 @@ use Prim.Native.Nat.{ℕ}
 use lib.ListN.{length}
 use Rattle.tables.specs.Tables.{Tables}
 use Rattle.journal.specs.declared.position.Position.{Position}
-use Rattle.session.specs.Answer.{positionOf}
+use Rattle.session.specs.Answer as session
 use Rattle.session_open.specs.Open as O
-use Rattle.session.specs.Forward.{Left, left, forwardTables}
+use Rattle.session.specs.Forward.{forwardTables}
 use Rattle.session.specs.Back.{backTables}
 use Rattle.session.specs.declared.answer.StepAnswer.{StepAnswer}
 
--- "the calls, each forward with its reply"
+-- 01: "the calls, each forward with its reply"
 pub data Call : Type 0 where
   forward : List ℕ → Call
   back : Call
+
+-- what a call of the list answers
+pub data Answer : Type 0 where
+  stepped : StepAnswer → Answer
+
+-- 0, or the refusal's number
+abbrev pub numberOf : Answer → ℕ
+numberOf (stepped a) = session.stepNumber a
+
+-- 01: "Every answer gives the position."
+abbrev pub positionOf : Answer → Position
+positionOf (stepped a) = session.positionOf a
 
 pub record Session : Type 0 where
   pub memory : List ℕ
@@ -24,19 +36,29 @@ pub record Session : Type 0 where
 abbrev pub opened : Tables → List ℕ → List ℕ → Session
 opened t memory journal = record { memory = O.openTables t memory (length journal) .memory; journal = journal; position = O.start }
 
--- what a call answers and leaves; back writes no journal word
-abbrev pub called : Tables → Call → Session → Left
-called t (forward reply) s = forwardTables t (s .memory) (s .journal) (s .position) reply
-called t back s = let b = backTables t (s .memory) (s .journal) (s .position) in left (b .answer) (b .memory) (s .journal)
+-- what a call answers, and the lent words at its end
+pub record Called : Type 0 where
+  pub answer : Answer
+  pub memory : List ℕ
+  pub journal : List ℕ
 
--- "Every answer gives the position."
-abbrev pub after : Left → Session
+abbrev pub gives : Answer → List ℕ → List ℕ → Called
+gives answer memory journal = record { answer = answer; memory = memory; journal = journal }
+
+-- `forwardTables` and `backTables` are the right sides of the promises of `forward` and `back` in console/src, on which console_c's `console_forward` and `console_back` rest.
+-- Back is lent the journal to read alone.
+abbrev pub called : Tables → Call → Session → Called
+called t (forward reply) s = let l = forwardTables t (s .memory) (s .journal) (s .position) reply in gives (stepped (l .answer)) (l .memory) (l .journal)
+called t back s = let b = backTables t (s .memory) (s .journal) (s .position) in gives (stepped (b .answer)) (b .memory) (s .journal)
+
+-- demand 3: "each call gets the memory and journal that open got and the last position returned"
+abbrev pub after : Called → Session
 after l = record { memory = l .memory; journal = l .journal; position = positionOf (l .answer) }
 
 abbrev pub next : Tables → Call → Session → Session
 next t c s = after (called t c s)
 
-unfoldable pub answers : Tables → List Call → Session → List StepAnswer
+unfoldable pub answers : Tables → List Call → Session → List Answer
 answers t [] s = []
 answers t (c ∷ cs) s = called t c s .answer ∷ answers t cs (next t c s)
 

@@ -1,5 +1,6 @@
 pub mod Calls
 pub mod Replay
+pub mod Journal
 pub mod Claim
 pub mod BenchRun
 pub mod Bench

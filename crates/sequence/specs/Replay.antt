@@ -1,4 +1,4 @@
--- The replay machine, 01's plain machine: it keeps a history of replies and nothing else, and works its cells and its position out anew from the start.
+-- 01's plain machine, a replay machine: its state is a history of replies, from which it works its cells and its position out anew.
 use mathlib.Core.List.{List, [], _∷_}
 use Prim.Native.Nat.{ℕ, _+_}
 use lib.ListN.{length}
@@ -10,82 +10,134 @@ use Rattle.tables.specs.Rows.{instructionRows}
 use Rattle.journal.specs.declared.cells.Write.{Write}
 use Rattle.journal.specs.declared.position.Position.{Position}
 use Rattle.journal.specs.Cells.{applied}
-use Rattle.operands.specs.Kinds as kinds
+use Rattle.operands.specs.Kinds.{zeros}
 use Rattle.machine.specs.Outcome.{outcomeAt}
-use Rattle.session.specs.Prepare.{entriesOf}
+use Rattle.session.specs.Prepare.{entriesOf, preparedOf}
 use Rattle.session.specs.declared.answer.StepAnswer.{StepAnswer}
 use Rattle.session.specs.declared.answer.StepAnswer.the-variants.{Moved, Refused}
-use Rattle.sequence.specs.Calls.{Call, forward, back}
+use Rattle.sequence.specs.Calls.{Call, forward, back, Answer, stepped}
 
--- "Demand 3's plain machine is fed the opened tables, memory's and the journal's length and the calls": memory's length is in no look that open has not made.
+-- ---- what it is fed
+
+-- "Demand 3's plain machine is fed the opened tables, memory's and the journal's length and the calls, each forward with its reply; no answer or position."
+-- The lengths are in words. The cells that it starts from are any of the declared kinds; demand 3 has zeros.
 pub record Machine : Type 0 where
   pub tables : Tables
-  pub zeros : List ℕ
-  pub entries : ℕ
+  pub memoryWords : ℕ
+  pub journalWords : ℕ
+  pub startCells : List ℕ
 
--- the journal's length in words
-abbrev pub machineOf : Tables → ℕ → Machine
-machineOf t journal = record { tables = t; zeros = kinds.zeros (t .regions); entries = entriesOf journal }
+-- demand 3's: "reached from zero"
+abbrev pub machineOf : Tables → ℕ → ℕ → Machine
+machineOf t memoryWords journalWords = record { tables = t; memoryWords = memoryWords; journalWords = journalWords; startCells = zeros (t .regions) }
 
--- "Its state is a history of replies, empty after open." The last reply stands first.
+-- ---- its state
+
+-- the replies of the steps not taken back, the last one first
 abbrev pub History : Type 0
 History = List (List ℕ)
 
--- the row that the machine stands at
-abbrev pub rowAt : History → ℕ
-rowAt h = length h
+-- "Its state is a history of replies, empty after open."
+pub record State : Type 0 where
+  pub history : History
 
+abbrev pub fresh : State
+fresh = record { history = [] }
+
+-- a step's writes. A reply joins the history only where its step is not refused, so the second line is never reached.
 abbrev pub made : Outcome (List Write) → List Write
 made (ok ws) = ws
 made (refuse number) = []
 
+-- "Back drops the last reply; with none it is 12."
+abbrev pub dropped : History → Outcome History
+dropped [] = refuse nothingToTakeBack
+dropped (reply ∷ h) = ok h
+
+-- "that number is the answer, the history kept"
+abbrev pub nextState : State → Outcome State → State
+nextState s (ok s′) = s′
+nextState s (refuse number) = s
+
 module _ (M : Machine) where
+  -- ---- after the steps of a history
+
+  -- the row that it comes to: each step leads to the next row
+  abbrev pub rowAfter : History → ℕ
+  rowAfter h = length h
+
   -- "Its cells: zero with declared kinds, then row 0 done as above with the first reply, row 1 with the second, and so on."
-  unfoldable pub cellsAt : History → List ℕ
-  cellsAt [] = M .zeros
-  cellsAt (reply ∷ h) = applied (cellsAt h) (made (outcomeAt (M .tables) (cellsAt h) (rowAt h) reply))
+  -- "Done as above" is `outcomeAt`, which forward takes too: an error in that definition is one that the theorem cannot see. Reading, cases and the comparison look for it.
+  unfoldable pub cellsAfter : History → List ℕ
+  cellsAfter [] = M .startCells
+  cellsAfter (reply ∷ h) = applied (cellsAfter h) (made (outcomeAt (M .tables) (cellsAfter h) (rowAfter h) reply))
+
+  -- the writes of the step that a reply adds to a history
+  abbrev pub writesAfter : History → List ℕ → List Write
+  writesAfter h reply = made (outcomeAt (M .tables) (cellsAfter h) (rowAfter h) reply)
+
+  -- "journal changes plus 1 added up over its steps"
+  unfoldable pub usedAfter : History → ℕ
+  usedAfter [] = 0
+  usedAfter (reply ∷ h) = usedAfter h + (length (writesAfter h reply) + 1)
+
+  -- ---- at a state
+
+  abbrev pub rowAt : State → ℕ
+  rowAt s = rowAfter (s .history)
+
+  abbrev pub cellsAt : State → List ℕ
+  cellsAt s = cellsAfter (s .history)
+
+  abbrev pub usedAt : State → ℕ
+  usedAt s = usedAfter (s .history)
 
   -- "Its position: the history's length, and journal changes plus 1 added up over its steps."
-  unfoldable pub usedAt : History → ℕ
-  usedAt [] = 0
-  usedAt (reply ∷ h) = usedAt h + (length (made (outcomeAt (M .tables) (cellsAt h) (rowAt h) reply)) + 1)
+  abbrev pub positionAt : State → Position
+  positionAt s = record { done = length (s .history); used = usedAt s }
 
-  abbrev pub positionAt : History → Position
-  positionAt h = record { done = length h; used = usedAt h }
+  -- ---- the calls
 
-  -- "A forward takes the next row and the looks below on these cells": 11, what the row does, 13. Those before 11 are of the tables and the lengths, which open has seen.
-  -- "13 journal full, exactly when changes plus 1 exceed entries left"
-  unfoldable pub replayLook : History → List ℕ → Outcome (List Write)
-  replayLook h reply = do
-    need (ltb (rowAt h) (instructionRows (M .tables .instructions))) atEnd
-    ws ← outcomeAt (M .tables) (cellsAt h) (rowAt h) reply
-    need (leb (usedAt h + (length ws + 1)) (M .entries)) journalFull
+  -- 01, Order: "1, 2, 3, 10, 4", with which forward and back begin; of the tables and the two lengths. 19 is of a position that is given, and the machine is given none.
+  abbrev pub looksFirst : Outcome ℕ
+  looksFirst = preparedOf (M .tables) (M .memoryWords) (M .journalWords)
+
+  -- "A forward takes the next row and the looks below on these cells": after those, 11, the row's, and "13 journal full, exactly when changes plus 1 exceed entries left".
+  unfoldable pub replayLook : State → List ℕ → Outcome (List Write)
+  replayLook s reply = do
+    looksFirst
+    need (ltb (rowAt s) (instructionRows (M .tables .instructions))) atEnd
+    ws ← outcomeAt (M .tables) (cellsAt s) (rowAt s) reply
+    need (leb (usedAt s + (length ws + 1)) (entriesOf (M .journalWords))) journalFull
     ok ws
 
+  -- the state that a call leads to, or its refusal
+  unfoldable pub replayed : Call → State → Outcome State
+  replayed (forward reply) s = do
+    ws ← replayLook s reply
+    ok (record { history = reply ∷ s .history })
+  replayed back s = do
+    looksFirst
+    h ← dropped (s .history)
+    ok (record { history = h })
+
   -- "If none refuses, its reply joins the history; else that number is the answer, the history kept." "Every answer gives the position."
-  abbrev pub forwardAnswer : History → List ℕ → Outcome (List Write) → StepAnswer
-  forwardAnswer h reply (ok ws) = Moved (positionAt (reply ∷ h))
-  forwardAnswer h reply (refuse number) = Refused number (positionAt h)
+  abbrev pub stepAnswer : State → Outcome State → StepAnswer
+  stepAnswer s (ok s′) = Moved (positionAt s′)
+  stepAnswer s (refuse number) = Refused number (positionAt s)
 
-  abbrev pub forwardHistory : History → List ℕ → Outcome (List Write) → History
-  forwardHistory h reply (ok ws) = reply ∷ h
-  forwardHistory h reply (refuse number) = h
+  abbrev pub replayAnswer : Call → State → Answer
+  replayAnswer c s = stepped (stepAnswer s (replayed c s))
 
-  -- "Back drops the last reply; with none it is 12."
-  abbrev pub replayAnswer : Call → History → StepAnswer
-  replayAnswer (forward reply) h = forwardAnswer h reply (replayLook h reply)
-  replayAnswer back [] = Refused nothingToTakeBack (positionAt [])
-  replayAnswer back (reply ∷ h) = Moved (positionAt h)
+  abbrev pub replayNext : Call → State → State
+  replayNext c s = nextState s (replayed c s)
 
-  abbrev pub replayNext : Call → History → History
-  replayNext (forward reply) h = forwardHistory h reply (replayLook h reply)
-  replayNext back [] = []
-  replayNext back (reply ∷ h) = h
+  -- ---- a list of calls
 
-  unfoldable pub replayAnswers : List Call → History → List StepAnswer
-  replayAnswers [] h = []
-  replayAnswers (c ∷ cs) h = replayAnswer c h ∷ replayAnswers cs (replayNext c h)
+  unfoldable pub replayAnswers : List Call → State → List Answer
+  replayAnswers [] s = []
+  replayAnswers (c ∷ cs) s = replayAnswer c s ∷ replayAnswers cs (replayNext c s)
 
-  unfoldable pub replayEnd : List Call → History → History
-  replayEnd [] h = h
-  replayEnd (c ∷ cs) h = replayEnd cs (replayNext c h)
+  unfoldable pub replayEnd : List Call → State → State
+  replayEnd [] s = s
+  replayEnd (c ∷ cs) s = replayEnd cs (replayNext c s)
