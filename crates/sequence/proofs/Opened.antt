@@ -1,55 +1,26 @@
 -- What an accepted open has seen, and what it leaves: the facts of open that the sequence theorem uses. Assumes nothing.
-use Prim.Native.Nat.{ℕ, _*_, _%_, _≤_}
-use mathlib.Core.Bool.{_&&_}
+use Prim.Native.Nat.{ℕ, _*_}
 use mathlib.Core.List.{List, _++_}
 use mathlib.Core.Path.{_≡_, refl, sym, ap, _∙_}
 use native.Mathlib.Omega.{arith}
-use lib.Dec.{eqb, leb}
 use lib.ListN.{length, drop}
-use borrow.Author.Tests.{leb-true}
-use Rattle.tables.specs.Outcome.{Outcome, ok, refuse, _>>_}
+use Rattle.tables.specs.Outcome.{Outcome, ok, refuse}
 use Rattle.tables.specs.Tables.{Tables}
-use Rattle.loader.specs.Load.{loadLook}
-use Rattle.tables.specs.Cells.{cellCount, cellsOf}
-use Rattle.loader.proofs.Loaded.{both, passed}
-use Rattle.tables.proofs.CellsLaws.{cells-given}
+use Rattle.tables.specs.Cells.{cellCount}
 use Rattle.type_check.specs.Check.{checkOf}
 use Rattle.type_check.specs.declared.error.Verdict.{Verdict}
 use Rattle.type_check.specs.declared.error.Verdict.the-variants as T
 use Rattle.operands.specs.Kinds.{zeros}
-use Rattle.operands.proofs.Binds.{bound}
-use Rattle.session.specs.Prepare.{entriesOf, buffersFit, preparedOf}
+use Rattle.session.specs.Prepare.{preparedOf}
+use Rattle.session.proofs.Prepared as S
+use Rattle.session.proofs.Prepared.{Facts}
 use Rattle.session_open.specs.Open.{start, programLook, Opening, opening, unlessRefused, unlessError, openTables}
 use Rattle.session.specs.declared.answer.OpenAnswer.the-variants.{Opened, Error}
 
--- ---- 1, 2, 3, 10, 4
-
--- they look at the tables and at lengths, which no call changes: after open neither forward nor back is refused with these numbers
-pub record Prepares (t : Tables) (memory words : ℕ) : Type 0 where
-  pub loads : loadLook t ≡ ok tt
-  pub given : preparedOf t memory words ≡ ok (cellCount (t .regions))
-  pub room : 2 * cellCount (t .regions) ≤ memory
-
-both-gave : {B : Type 0} (s : Outcome (Unit {0})) (rest : Outcome B) (b : B) → (s >> rest) ≡ ok b → (s ≡ ok tt) × (rest ≡ ok b)
-unfolding _>>_
-both-gave (ok tt) rest b e = (refl, e)
-both-gave (refuse n) rest b e = let z : _≡_ {A = ℕ} 0 1 = cc in absurd (omega arith)
-
-pub prepares : (t : Tables) (memory words n : ℕ) → preparedOf t memory words ≡ ok n → Prepares t memory words
-unfolding preparedOf buffersFit
-prepares t memory words n e =
-    let (loads, e₁) = both-gave (loadLook t) _ n e in
-    let b = bound (cellsOf (t .regions)) _ n e₁ in
-    let count = cells-given (t .regions) (b .value) (b .given) .0 in
-    let (fits, e₂) = passed (leb (2 * b .value) memory && (eqb (words % 3) 0 && leb (entriesOf words) 2048)) _ _ n (b .rest) in
-    let wide = leb-true (2 * b .value) memory (both (leb (2 * b .value) memory) _ fits .0) in
-    let same : n ≡ cellCount (t .regions) = cc in
-    record { loads = loads; given = e ∙ ap ok same; room = omega arith }
-
--- ---- the whole of open
-
+-- 1, 2, 3, 10 and 4 look at the tables and at lengths, which no call changes: after open neither forward nor back is refused with these numbers
 pub record Accepts (t : Tables) (memory : List ℕ) (words : ℕ) : Type 0 where
-  pub prepared : Prepares t (length memory) words
+  pub prepared : preparedOf t (length memory) words ≡ ok (cellCount (t .regions))
+  pub facts : Facts t (length memory) words (cellCount (t .regions))
   pub checked : checkOf (t .regions) (t .nodes) (t .instructions) ≡ T.Accepted
   pub leaves : openTables t memory words .memory ≡ zeros (t .regions) ++ drop (2 * cellCount (t .regions)) memory
 
@@ -77,8 +48,10 @@ accepts t memory words e =
     let c = unfaulted memory (checkOf (t .regions) (t .nodes) (t .instructions)) rows e₁ in
     let e₂ : rows .answer ≡ Opened start = sym (ap (λ (o : Opening). o .answer) (c .1)) ∙ e₁ in
     let l = unrefused memory (programLook t) end e₂ in
+    let given = p .given ∙ ap ok (S.prepared t (length memory) words (p .given) .count) in
     record {
-      prepared = prepares t (length memory) words (p .value) (p .given);
+      prepared = given;
+      facts = S.prepared t (length memory) words given;
       checked = c .0;
       leaves = ap (λ (o : Opening). o .memory) (p .goes-on ∙ c .1 ∙ l .goes-on);
     }

@@ -133,8 +133,8 @@ module _ (t : Tables) (sound : Sound t) (memory journal : List ℕ) (a : Accepts
   started = record {
     sound = sound;
     typed = sound .starts;
-    behind = omega (arith, length-drop (2 * cellCount (t .regions)) memory, a .prepared .room);
-    prepared = a .prepared .given;
+    behind = omega (arith, length-drop (2 * cellCount (t .regions)) memory, a .facts .room);
+    prepared = a .prepared;
   }
 
   opened-is : opened t memory journal ≡ sessionAt machine past fresh journal
