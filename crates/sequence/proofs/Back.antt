@@ -12,7 +12,9 @@ use Rattle.journal.specs.Entries.{log, closing}
 use Rattle.journal.specs.Position.{retreated}
 use Rattle.journal.specs.Restore.{restored, undone}
 use Rattle.journal.proofs.RestoreLaws.{restored-olds}
-use Rattle.session.specs.Back.{firstEntry, journalLook, takeBackLook, backLook, backed, backLeaves, backTables}
+use Rattle.session.specs.Position.{placedLook}
+use Rattle.session.specs.Leaves.{withTail}
+use Rattle.session_back.specs.Back.{firstEntry, journalLook, backLook, Back, backed, takenBack, backTables}
 use Rattle.session.specs.declared.answer.StepAnswer.the-variants.{Moved, Refused}
 use Rattle.sequence.specs.Calls.{back}
 use Rattle.sequence.specs.Replay.{Machine, History, State, cellsAfter, writesAfter, usedAfter, cellsAt, positionAt, replayed}
@@ -33,8 +35,8 @@ module _ {M : Machine} {past : List ℕ} (started : Started M past) where
   pub back-none : (rest : List ℕ) → Within M (at []) rest
       → backTables (M .tables) (cellsAt M (at []) ++ past) (journalAt M (at []) ++ rest) (positionAt M (at []))
       ≡ backed (Refused nothingToTakeBack (positionAt M (at []))) (cellsAt M (at []) ++ past)
-  unfolding backTables backLook takeBackLook journalLook backLeaves _>>=_ _>>_ need
-  back-none rest w = rw (prepared-at started w, position-fits started w)
+  unfolding backTables takenBack withTail backLook placedLook journalLook _>>=_ _>>_ need
+  back-none rest w = rw (prepared-at started w, position-fits started w, cells-taken started [], past-left started [])
 
   -- ---- the last step taken back
 
@@ -61,7 +63,7 @@ module _ {M : Machine} {past : List ℕ} (started : Started M past) where
         ∙ journal-look os (stepsAfter M h) rest (count M) (suc (length h)) (omega arith) (present-after started h reply (w .steps))
 
     back-look : backLook (M .tables) (length (cellsAfter M (reply ∷ h) ++ past)) journal (positionAt M (at (reply ∷ h))) ≡ ok (length os)
-    unfolding backLook takeBackLook _>>=_ _>>_ need
+    unfolding backLook placedLook _>>=_ _>>_ need
     back-look = rw (prepared-at started w, position-fits started w) look
 
     position-is : retreated (positionAt M (at (reply ∷ h))) (length os) ≡ positionAt M (at h)
@@ -86,10 +88,10 @@ module _ {M : Machine} {past : List ℕ} (started : Started M past) where
 
     pub back-last : backTables (M .tables) (cellsAfter M (reply ∷ h) ++ past) journal (positionAt M (at (reply ∷ h)))
         ≡ backed (Moved (positionAt M (at h))) (cellsAfter M h ++ past)
-    unfolding backTables backLeaves
+    unfolding backTables takenBack withTail
     back-last =
-        ap (backLeaves (2 * count M) (cellsAfter M (reply ∷ h) ++ past) journal (positionAt M (at (reply ∷ h)))) back-look
-        ∙ (λ i. record { answer = Moved (position-is i); memory = memory-is i })
+        ap (λ (o : Outcome ℕ). withTail (2 * count M) (cellsAfter M (reply ∷ h) ++ past) (λ cells. takenBack cells journal (positionAt M (at (reply ∷ h))) o)) back-look
+        ∙ (λ i. backed (Moved (position-is i)) (memory-is i))
 
     -- its entries lie past the used part again
     pub back-within : Within M (at h) (log (cellsAfter M h) (writesAfter M h reply) ++ (closing (length (writesAfter M h reply)) ++ rest))

@@ -20,8 +20,11 @@ use Rattle.journal.proofs.CellsLaws.{each-map, held-applied}
 use Rattle.journal.proofs.EntriesLaws.{length-journaled, journaled-between}
 use Rattle.machine.specs.Outcome.{isCall}
 use Rattle.session.specs.Prepare.{entriesOf}
-use Rattle.session.specs.Forward.{rowLook, forwardLook, left, leaves, forwardTables}
-use Rattle.session.specs.declared.answer.StepAnswer.the-variants.{Moved}
+use Rattle.session.specs.Position.{placedLook}
+use Rattle.session.specs.Leaves.{withTail}
+use Rattle.session_forward.specs.Forward as session
+use Rattle.session_forward.specs.Forward.{forwardLook, Left, left, forwardTables}
+use Rattle.session.specs.declared.answer.StepAnswer.the-variants.{Moved, Refused}
 use Rattle.soundness.specs.Sound.{GoodWrite}
 use Rattle.sequence.specs.Calls.{stepped}
 use Rattle.sequence.specs.Replay.{Machine, State, made, cellsAfter, writesAfter, usedAfter, rowAt, cellsAt, usedAt, positionAt, replayLook, replayed, stepAnswer, nextState}
@@ -42,16 +45,19 @@ module _ {M : Machine} {past : List ℕ} (started : Started M past) where
 
   forward-look : (s : State) (rest reply : List ℕ) → Within M s rest
       → forwardLook (M .tables) (cellsAt M s ++ past) (length (journalAt M s ++ rest)) (positionAt M s) reply ≡ replayLook M s reply
-  unfolding forwardLook rowLook _>>=_ _>>_ need
+  unfolding forwardLook placedLook _>>=_ _>>_ need
   forward-look s rest reply w =
       rw (prepared-at started w, position-fits started w, cells-taken started (s .history), w .size)
       (same-look M (started .prepared) s reply (omega (arith, spent started w)))
 
   -- ---- what it leaves, by what the looks gave
 
+  abbrev leavesAt : State → List ℕ → Outcome (List Write) → Left
+  leavesAt s rest o = withTail (2 * count M) (cellsAt M s ++ past) (λ cells. session.stepped cells (journalAt M s ++ rest) (positionAt M s) o)
+
   pub record Forwarded (s : State) (rest reply : List ℕ) (o : Outcome (List Write)) : Type 0 where
     pub rest′ : List ℕ
-    pub leaves-is : leaves (2 * count M) (cellsAt M s ++ past) (journalAt M s ++ rest) (positionAt M s) o
+    pub leaves-is : leavesAt s rest o
         ≡ left (stepAnswer M s (joins s reply o)) (cellsAt M (nextState s (joins s reply o)) ++ past) (journalAt M (nextState s (joins s reply o)) ++ rest′)
     pub within : Within M (nextState s (joins s reply o)) rest′
 
@@ -83,7 +89,7 @@ module _ {M : Machine} {past : List ℕ} (started : Started M past) where
         ∙ sym (journal-parted M reply (s .history) rest′)
 
     moved : Forwarded s rest reply (ok ws)
-    unfolding leaves _>>=_
+    unfolding withTail session.stepped _>>=_
     moved = record {
       rest′ = drop (3 * (length ws + 1)) rest;
       leaves-is = λ i. record { answer = Moved (position-is i); memory = memory-is i; journal = journal-is i };
@@ -94,8 +100,12 @@ module _ {M : Machine} {past : List ℕ} (started : Started M past) where
     }
 
   forwarded-by : (s : State) (rest reply : List ℕ) → Within M s rest → (o : Outcome (List Write)) → replayLook M s reply ≡ o → Forwarded s rest reply o
-  unfolding leaves _>>=_
-  forwarded-by s rest reply w (refuse n) e = record { rest′ = rest; leaves-is = refl; within = w }
+  unfolding withTail session.stepped _>>=_
+  forwarded-by s rest reply w (refuse n) e = record {
+    rest′ = rest;
+    leaves-is = ap₂ (λ (a b : List ℕ). left (Refused n (positionAt M s)) (a ++ b) (journalAt M s ++ rest)) (cells-taken started (s .history)) (past-left started (s .history));
+    within = w;
+  }
   forwarded-by s rest reply w (ok ws) e = moved s rest reply w ws e
 
   pub forwarded : (s : State) (rest reply : List ℕ) → Within M s rest → Forwarded s rest reply (replayLook M s reply)
@@ -103,10 +113,9 @@ module _ {M : Machine} {past : List ℕ} (started : Started M past) where
 
   pub forward-leaves : (s : State) (rest reply : List ℕ) → Within M s rest
       → forwardTables (M .tables) (cellsAt M s ++ past) (journalAt M s ++ rest) (positionAt M s) reply
-      ≡ leaves (2 * count M) (cellsAt M s ++ past) (journalAt M s ++ rest) (positionAt M s) (replayLook M s reply)
+      ≡ leavesAt s rest (replayLook M s reply)
   unfolding forwardTables
-  forward-leaves s rest reply w =
-      ap (leaves (2 * count M) (cellsAt M s ++ past) (journalAt M s ++ rest) (positionAt M s)) (forward-look s rest reply w)
+  forward-leaves s rest reply w = ap (leavesAt s rest) (forward-look s rest reply w)
 
   -- ---- "No call in it met an operand without a rule"
 

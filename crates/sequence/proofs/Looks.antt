@@ -15,7 +15,8 @@ use Rattle.journal.specs.declared.cells.Write.{Write}
 use Rattle.machine.specs.Outcome.{outcomeAt}
 use Rattle.operands.proofs.Binds.{bound}
 use Rattle.session.specs.Prepare.{entriesOf}
-use Rattle.session.specs.Forward.{roomFor, stepLook}
+use Rattle.session.specs.Position.{roomFor}
+use Rattle.session_forward.specs.Forward.{stepLook}
 use Rattle.sequence.specs.Replay.{Machine, State, rowAt, cellsAt, usedAt, positionAt, looksFirst, replayLook}
 
 -- a refusal k of a look that is not refused with k itself

@@ -22,7 +22,7 @@ use Rattle.journal.proofs.EntriesLaws.{length-olds, entries-log}
 use Rattle.journal.proofs.RestoreLaws.{present-log}
 use Rattle.machine.specs.Outcome.{outcomeAt}
 use Rattle.session.specs.Prepare.{entriesOf, preparedOf}
-use Rattle.session.specs.Forward.{positionFits}
+use Rattle.session.specs.Position.{positionFits}
 use Rattle.soundness.specs.Sound.{Fits, Typed, GoodWrite, Sound}
 use Rattle.sequence.specs.Calls.{Session}
 use Rattle.sequence.specs.Replay.{Machine, History, State, made, rowAfter, cellsAfter, writesAfter, usedAfter, cellsAt, usedAt, positionAt, looksFirst}
@@ -140,7 +140,7 @@ module _ {M : Machine} {past : List ℕ} (started : Started M past) where
     prepared-at = rw (length-append (cellsAt M s) past, wide (s .history), started .behind, within .size) (started .prepared)
 
     -- 19
-    pub position-fits : positionFits (rows M) (entriesOf (length (journalAt M s ++ rest))) (positionAt M s) ≡ true
+    pub position-fits : positionFits (M .tables .instructions) (entriesOf (length (journalAt M s ++ rest))) (positionAt M s) ≡ true
     unfolding positionFits
     position-fits =
         rw (within .size, le-leb (length (s .history)) (rows M) (within .steps), le-leb (usedAt M s) (entriesOf (M .journalWords)) (omega (arith, spent)))

@@ -12,11 +12,12 @@ use Rattle.tables.specs.Cells.{cellCount}
 use Rattle.journal.specs.Cells.{held}
 use Rattle.journal.specs.Each.{Each, none, also}
 use Rattle.journal.specs.Entries.{log, closing}
-use Rattle.session_open.specs.Open as O
-use Rattle.session.specs.Forward.{Left}
-use Rattle.session.specs.Back.{Back}
+use Rattle.journal.specs.Position.{firstPosition}
+use Rattle.session.specs.Leaves.{leaves}
+use Rattle.session_forward.specs.Forward.{Left}
+use Rattle.session_back.specs.Back.{Back}
 use Rattle.soundness.specs.Sound.{Typed, Sound}
-use Rattle.sequence.specs.Calls.{Call, forward, back, Answer, stepped, positionOf, Session, opened, Called, gives, called, after, next, answers, end}
+use Rattle.sequence.specs.Calls.{Call, forward, back, Answer, stepped, positionOf, Session, opened, Called, called, after, next, answers, end}
 use Rattle.sequence.specs.Replay.{Machine, machineOf, History, State, fresh, cellsAfter, writesAfter, usedAfter, cellsAt, usedAt, positionAt, replayed, stepAnswer, nextState, replayAnswer, replayNext, replayAnswers, replayEnd}
 use Rattle.sequence.specs.Journal.{stacked, stepsAfter, journalAfter, journalAt, usedEntries}
 use Rattle.sequence.specs.Claim.{Ruled, Framed, Faithful}
@@ -31,11 +32,11 @@ module _ {M : Machine} {past : List ℕ} (started : Started M past) where
   -- on a reached session it answers and leaves what the replay machine says, whose call leads to o
   record Follows (c : Call) (s : State) (rest : List ℕ) (o : Outcome State) : Type 0 where
     rest′ : List ℕ
-    called-is : called (M .tables) c (sessionAt M past s rest) ≡ gives (stepped (stepAnswer M s o)) (cellsAt M (nextState s o) ++ past) (journalAt M (nextState s o) ++ rest′)
+    called-is : called (M .tables) c (sessionAt M past s rest) ≡ leaves (stepped (stepAnswer M s o)) (cellsAt M (nextState s o) ++ past) (journalAt M (nextState s o) ++ rest′)
     within : Within M (nextState s o) rest′
 
   abbrev leftBack : List ℕ → Back → Called
-  leftBack journal b = gives (stepped (b .answer)) (b .memory) journal
+  leftBack journal b = leaves (stepped (b .answer)) (b .memory) journal
 
   follows-back : (h : History) (rest : List ℕ) → Within M (record { history = h }) rest → Follows back (record { history = h }) rest (replayed M back (record { history = h }))
   follows-back [] rest w =
@@ -55,7 +56,7 @@ module _ {M : Machine} {past : List ℕ} (started : Started M past) where
       let f = forwarded started s rest reply w in
       record {
         rest′ = f .rest′;
-        called-is = ap (λ (l : Left). gives (stepped (l .answer)) (l .memory) (l .journal)) (forward-leaves started s rest reply w ∙ f .leaves-is);
+        called-is = ap (λ (l : Left). leaves (stepped (l .answer)) (l .memory) (l .journal)) (forward-leaves started s rest reply w ∙ f .leaves-is);
         within = f .within;
       }
   follows back s rest w = follows-back (s .history) rest w
@@ -139,7 +140,7 @@ module _ (t : Tables) (sound : Sound t) (memory journal : List ℕ) (a : Accepts
 
   opened-is : opened t memory journal ≡ sessionAt machine past fresh journal
   unfolding cellsAfter usedAfter stacked stepsAfter
-  opened-is = λ i. record { memory = a .leaves i; journal = journal; position = O.start }
+  opened-is = λ i. record { memory = a .zeroed i; journal = journal; position = firstPosition }
 
   begins : Within machine fresh journal
   unfolding stacked stepsAfter

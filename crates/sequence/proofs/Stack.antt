@@ -12,7 +12,7 @@ use Rattle.journal.specs.declared.position.Position.{Position}
 use Rattle.journal.specs.Entries.{flatten, closing, changesAt, entriesAt}
 use Rattle.journal.specs.Restore.{present, restored, undone}
 use Rattle.journal.proofs.EntriesLaws.{length-flatten, length-closing, entries-flatten, changes-closing}
-use Rattle.session.specs.Back.{journalLook}
+use Rattle.session_back.specs.Back.{journalLook}
 use Rattle.sequence.specs.Journal.{Steps, stacked, usedBy}
 
 pub length-stacked : (steps : Steps) → length (stacked steps) ≡ 3 * usedBy steps

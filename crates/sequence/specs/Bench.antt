@@ -9,7 +9,7 @@ use Rattle.type_check.specs.Numbers.{imaginary, realOrIntegral, firstSpot, seco
 use Rattle.type_check.specs.Judgement.{Judgement, undefinedMemoryReference, dataTypeMismatch, realValueRequired, operatorOperandMismatch, verdictAt}
 use Rattle.type_check.specs.declared.error.Verdict.{Verdict}
 use Rattle.type_check.specs.declared.error.Verdict.the-variants as T
-use Rattle.session_open.specs.Open as O
+use Rattle.journal.specs.Position.{firstPosition}
 use Rattle.session.specs.declared.answer.OpenAnswer.{OpenAnswer}
 use Rattle.session.specs.declared.answer.OpenAnswer.the-variants.{Opened, Error}
 use Rattle.session.specs.declared.answer.StepAnswer.the-variants.{Moved, Refused}
@@ -18,7 +18,7 @@ use Rattle.sequence.specs.BenchRun.{ADD-INTEGER, ADD-REAL, DIV, SHL, ASH
 
 -- open's answer for a verdict of the type check, and where the rule of row 0 is not met
 abbrev answerOf : Verdict → OpenAnswer
-answerOf T.Accepted = Opened O.start
+answerOf T.Accepted = Opened firstPosition
 answerOf (T.Error e) = Error e
 
 abbrev failing : Judgement → OpenAnswer
@@ -52,7 +52,7 @@ loading n₀ = MOVE n n₀ ++ (MOVE-REAL r 1 bits ++ LOAD r r n)
 pub record Bench : Type 0 where
   -- "Empty program passes; its first forward is 11."
   pub empty :
-      (run [] [] 4 (step ∷ []) .opening ≡ Opened O.start)
+      (run [] [] 4 (step ∷ []) .opening ≡ Opened firstPosition)
       × (run [] [] 4 (step ∷ []) .steps ≡ refused atEnd 0 0 ∷ [])
   -- "ADD a[0] 1.5 is error 2; ADD a[0] 1 is 4."
   pub add :
@@ -71,7 +71,7 @@ pub record Bench : Type 0 where
       × (run [] (MOVE o 128 ++ SHL o (2 ^ 64 - 1)) 4 (step ∷ step ∷ []) .steps ≡ moved 1 2 ∷ refused negativeShiftCount 1 2 ∷ [])
   -- "Imaginary 3CB0000000000000 (hexadecimal) passes, 3CB0000000000001 is error 3."
   pub imaginary-part :
-      (run (number 0x3CB0000000000000) SET-PHASE 4 [] .opening ≡ Opened O.start)
+      (run (number 0x3CB0000000000000) SET-PHASE 4 [] .opening ≡ Opened firstPosition)
       × (run (number 0x3CB0000000000001) SET-PHASE 4 [] .opening ≡ failing (realValueRequired (nodeSpot 0) imaginary))
   -- "LOAD r[0] r n[0]: n[0] 1 works, 2 is 14."
   pub load :

@@ -37,10 +37,12 @@ use Rattle.operands.specs.Address.{addressOf, indexFits, indexedOf, namedOf, na
 use Rattle.operators.specs.Operators.{integerResult, arithmeticResult, logicResult}
 use Rattle.machine.specs.Families as families
 use Rattle.machine.specs.Outcome.{plainOutcome, outcomeOf, outcomeAt}
-use Rattle.session.specs.Prepare.{buffersFit, preparedOf}
-use Rattle.session_open.specs.Open.{noOther, callLook, callsLook, programLook, openTables}
-use Rattle.session.specs.Forward.{positionFits, roomFor, stepLook, rowLook, forwardLook, leaves, forwardTables}
-use Rattle.session.specs.Back.{journalLook, takeBackLook, backLook, backLeaves, backTables}
+use Rattle.session.specs.Prepare.{tablesLook, buffersFit, preparedOf}
+use Rattle.session.specs.Position.{positionFits, placedLook, roomFor}
+use Rattle.session.specs.Leaves.{withTail}
+use Rattle.session_open.specs.Open.{noOther, callLook, callsLook, programLook, programVerdict, openVerdict, openCells, openTables}
+use Rattle.session_forward.specs.Forward.{stepLook, forwardLook, stepped, forwardTables}
+use Rattle.session_back.specs.Back.{journalLook, backLook, takenBack, backTables}
 use Rattle.session.specs.declared.answer.OpenAnswer.{OpenAnswer}
 use Rattle.sequence.specs.Calls.{Call, Answer, Session, opened, answers, end}
 
@@ -114,8 +116,8 @@ unfolding fitsKind widthOf lowBits signed wordOf integerIsNegative integerDivide
     zeros zerosFrom declaredKind regionOf regionAmong outcomeAt outcomeOf plainOutcome namesOf namedOf addressesOf writtenOf indexedOf indexFits addressOf
     readOf sourceOf offsetOf families.familyOf families.putInto families.arithmeticOf families.logicOf families.moveOf families.exchangeOf
     families.loadOf arithmeticResult integerResult logicResult
-    openTables preparedOf buffersFit programLook noOther callsLook callLook forwardTables forwardLook rowLook stepLook roomFor positionFits leaves
-    backTables backLook takeBackLook journalLook backLeaves answers end
+    openTables openCells openVerdict programVerdict preparedOf tablesLook buffersFit programLook noOther callsLook callLook withTail
+    forwardTables stepped forwardLook placedLook stepLook roomFor positionFits backTables takenBack backLook journalLook answers end
 run nodes program entries calls =
     let t : Tables = tablesOf declarations [] [] nodes [] program in
     let memory : List ℕ = replicate 16 9 in

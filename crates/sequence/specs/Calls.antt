@@ -4,11 +4,13 @@ use Prim.Native.Nat.{ℕ}
 use lib.ListN.{length}
 use Rattle.tables.specs.Tables.{Tables}
 use Rattle.journal.specs.declared.position.Position.{Position}
+use Rattle.journal.specs.Position.{firstPosition}
 use Rattle.session.specs.Answer as session
-use Rattle.session_open.specs.Open as O
-use Rattle.session.specs.Forward.{forwardTables}
-use Rattle.session.specs.Back.{backTables}
+use Rattle.session.specs.Leaves.{Leaves, leaves}
 use Rattle.session.specs.declared.answer.StepAnswer.{StepAnswer}
+use Rattle.session_open.specs.Open.{openTables}
+use Rattle.session_forward.specs.Forward.{forwardTables}
+use Rattle.session_back.specs.Back.{backTables}
 
 -- 01: "the calls, each forward with its reply"
 pub data Call : Type 0 where
@@ -34,22 +36,17 @@ pub record Session : Type 0 where
 
 -- what open leaves of a lent memory and journal
 abbrev pub opened : Tables → List ℕ → List ℕ → Session
-opened t memory journal = record { memory = O.openTables t memory (length journal) .memory; journal = journal; position = O.start }
+opened t memory journal = record { memory = openTables t memory (length journal) .memory; journal = journal; position = firstPosition }
 
 -- what a call answers, and the lent words at its end
-pub record Called : Type 0 where
-  pub answer : Answer
-  pub memory : List ℕ
-  pub journal : List ℕ
-
-abbrev pub gives : Answer → List ℕ → List ℕ → Called
-gives answer memory journal = record { answer = answer; memory = memory; journal = journal }
+abbrev pub Called : Type 0
+Called = Leaves Answer (List ℕ)
 
 -- `forwardTables` and `backTables` are the right sides of the promises of `forward` and `back` in console/src, on which console_c's `console_forward` and `console_back` rest.
 -- Back is lent the journal to read alone.
 abbrev pub called : Tables → Call → Session → Called
-called t (forward reply) s = let l = forwardTables t (s .memory) (s .journal) (s .position) reply in gives (stepped (l .answer)) (l .memory) (l .journal)
-called t back s = let b = backTables t (s .memory) (s .journal) (s .position) in gives (stepped (b .answer)) (b .memory) (s .journal)
+called t (forward reply) s = let l = forwardTables t (s .memory) (s .journal) (s .position) reply in leaves (stepped (l .answer)) (l .memory) (l .journal)
+called t back s = let b = backTables t (s .memory) (s .journal) (s .position) in leaves (stepped (b .answer)) (b .memory) (s .journal)
 
 -- demand 3: "each call gets the memory and journal that open got and the last position returned"
 abbrev pub after : Called → Session

@@ -11,12 +11,12 @@ use Rattle.tables.specs.Rows.{regionName, instructionAt}
 use Rattle.tables.specs.Cells.{cellCount}
 use Rattle.tables.specs.declared.rows.Instruction.{Instruction}
 use Rattle.extern_call.specs.Access.{has}
-use Rattle.journal.specs.Cells.{held}
+use Rattle.journal.specs.Position.{rowOf, firstPosition}
+use Rattle.journal.specs.Cells.{cellWidth, held}
 use Rattle.journal.specs.Each.{Each}
 use Rattle.machine.specs.Outcome.{isCall}
-use Rattle.session_open.specs.Open as O
-use Rattle.session.specs.Forward.{rowOf}
 use Rattle.session.specs.declared.answer.OpenAnswer.the-variants.{Opened}
+use Rattle.session_open.specs.Open.{openTables}
 use Rattle.soundness.specs.WriteSet.{HasCell, writeSet}
 use Rattle.soundness.specs.Sound.{Typed}
 use Rattle.sequence.specs.Calls.{Call, forward, back, Answer, numberOf, Session, opened, next, answers, end}
@@ -62,7 +62,7 @@ module _ (t : Tables) (memory journal : List ℕ) (calls : List Call) where
 
   pub record Faithful : Type 0 where
     -- "After it every cell has its declared kind.": its word too is of that kind
-    pub kinds : Typed (t .regions) (take (2 * cellCount (t .regions)) (ending .memory))
+    pub kinds : Typed (t .regions) (take (cellWidth * cellCount (t .regions)) (ending .memory))
     -- "No call in it met an operand without a rule"
     pub ruled : Each Ruled (answers t calls session)
     -- ", and a CALL changed only cells of regions in its write set."
@@ -70,7 +70,7 @@ module _ (t : Tables) (memory journal : List ℕ) (calls : List Call) where
     -- "Each call's answer, refusal number and position included, is the one that document 01's plain machine gives for the same list; so forward and back are refused exactly when 01 says."
     pub answers-are : answers t calls session ≡ replayAnswers machine calls fresh
     -- "The memory left holds the plain machine's cells, reached from zero by the steps not taken back, with their replies, and past them what open left.": open leaves what was lent
-    pub memory-is : ending .memory ≡ cellsAt machine state ++ drop (2 * cellCount (t .regions)) memory
+    pub memory-is : ending .memory ≡ cellsAt machine state ++ drop (cellWidth * cellCount (t .regions)) memory
     -- The demand has no sentence on the journal. Its used entries are those of the plain machine's steps.
     pub journal-is : usedEntries ending ≡ journalAt machine state
 
@@ -82,5 +82,5 @@ module _ (t : Tables) (memory journal : List ℕ) (calls : List Call) where
 abbrev pub Demand3 : Type 0
 Demand3 =
     (t : Tables) (memory journal : List ℕ) → ((i : ℕ) → getD (t .instructions) i 0 < 2 ^ 64)
-    → O.openTables t memory (length journal) .answer ≡ Opened O.start
+    → openTables t memory (length journal) .answer ≡ Opened firstPosition
     → (calls : List Call) → Faithful t memory journal calls

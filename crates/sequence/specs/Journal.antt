@@ -4,7 +4,7 @@ use mathlib.Core.List.{List, [], _∷_, _++_}
 use Prim.Native.Nat.{ℕ, _+_, _*_}
 use lib.ListN.{length, take}
 use Rattle.journal.specs.declared.cells.Write.{Write}
-use Rattle.journal.specs.Entries.{flatten, olds, closing}
+use Rattle.journal.specs.Entries.{entryWidth, flatten, olds, closing}
 use Rattle.sequence.specs.Calls.{Session}
 use Rattle.sequence.specs.Replay.{Machine, History, State, cellsAfter, writesAfter}
 
@@ -34,6 +34,6 @@ module _ (M : Machine) where
   abbrev pub journalAt : State → List ℕ
   journalAt s = journalAfter (s .history)
 
--- of a session: the first entries, three words each, as many as its position says
+-- of a session: the first entries, as many as its position says
 abbrev pub usedEntries : Session → List ℕ
-usedEntries s = take (3 * s .position .used) (s .journal)
+usedEntries s = take (entryWidth * s .position .used) (s .journal)
