@@ -1,5 +1,5 @@
 -- The sequence theorem. The crate's main law is `agrees`: from start cells of the declared kinds every list of calls on the lent buffers does what the replay machine does.
--- `faithful` says it after an accepted open. Of the step they use the record `Sound` alone, which they are handed. Assumes nothing else.
+-- `faithful` says it after an accepted open. Of the step they use the record `Sound` alone, which they are handed. No axioms.
 use Prim.Native.Nat.{ℕ, _+_, _*_, _≤_}
 use mathlib.Core.List.{List, [], _∷_, _++_}
 use mathlib.Core.Path.{_≡_, refl, sym, ap, ap₂, _∙_, subst}

@@ -1,4 +1,4 @@
--- Demand 3: the theorem. Assumes nothing.
+-- Demand 3: the theorem, under the claim's premises. No axioms.
 use lib.ListN.{length}
 use Rattle.soundness.specs.Sound.{Checked}
 use Rattle.soundness.proofs.Sound.{sound}

@@ -28,8 +28,8 @@ use Rattle.type_check.specs.Rule.{arithmeticRule, sourceRule, logicSource, logi
 use Rattle.type_check.specs.Codes.{kindCode, codeOf, operandCode, sourceCode, rowRule}
 use Rattle.type_check.specs.Frame.{numberVerdict, nodeVerdict, treeVerdict, frameRule}
 use Rattle.type_check.specs.Check.{judgementOf, verdictOf, checkOf}
-use Rattle.journal.specs.Cells.{put, applied}
-use Rattle.journal.specs.Entries.{flatten, olds, log, closing, entered, journaled, entriesAt}
+use Rattle.journal.specs.Cells.{cellWidth, put, applied}
+use Rattle.journal.specs.Entries.{entryWidth, flatten, olds, log, closing, entered, journaled, entriesAt}
 use Rattle.journal.specs.Restore.{restored, undone, present}
 use Rattle.operands.specs.Kinds.{regionAmong, regionOf, declaredKind, zerosFrom, zeros}
 use Rattle.operands.specs.Cells.{readOf, sourceOf, offsetOf}
@@ -103,7 +103,7 @@ pub record Run : Type 0 where
   pub steps : List Answer
   pub memory : List ℕ
 
--- The lent memory has two words for each of the eight cells, and the journal so many entries; both hold something else before. All that the calls rest on is unfolded.
+-- The lent memory has room for the eight cells, and the journal for so many entries; both hold something else before. All that the calls rest on is unfolded.
 unfoldable pub run : List ℕ → List ℕ → ℕ → List Call → Run
 unfolding fitsKind widthOf lowBits signed wordOf integerIsNegative integerDivide integerQuotient shiftLeft shiftRightArithmetic shifted shlAt ashrAt
     realAboveEpsilon size ofBits lt caseOf
@@ -120,8 +120,8 @@ unfolding fitsKind widthOf lowBits signed wordOf integerIsNegative integerDivide
     forwardTables stepped forwardLook placedLook stepLook roomFor positionFits backTables takenBack backLook journalLook answers end
 run nodes program entries calls =
     let t : Tables = tablesOf declarations [] [] nodes [] program in
-    let memory : List ℕ = replicate 16 9 in
-    let journal : List ℕ = replicate (3 * entries) 9 in
+    let memory : List ℕ = replicate (cellWidth * 8) 9 in
+    let journal : List ℕ = replicate (entryWidth * entries) 9 in
     let s : Session = opened t memory journal in
     let steps : List Answer = answers t calls s in
     let left : List ℕ = end t calls s .memory in

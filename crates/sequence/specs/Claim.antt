@@ -10,7 +10,7 @@ use Rattle.tables.specs.Tables.{Tables}
 use Rattle.tables.specs.Rows.{regionName, instructionAt}
 use Rattle.tables.specs.Cells.{cellCount}
 use Rattle.tables.specs.declared.rows.Instruction.{Instruction}
-use Rattle.extern_call.specs.Access.{has}
+use Rattle.access_sets.specs.Set.{has}
 use Rattle.journal.specs.Position.{rowOf, firstPosition}
 use Rattle.journal.specs.Cells.{cellWidth, held}
 use Rattle.journal.specs.Each.{Each}

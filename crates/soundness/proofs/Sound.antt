@@ -1,4 +1,4 @@
--- The theorem: on cells of the declared kinds, no row of accepted tables is refused with 18, and its writes are good. Assumes nothing.
+-- The theorem: on cells of the declared kinds, no row of accepted tables is refused with 18, and its writes are good. Under the premises of `Checked`; no axioms.
 use Prim.Native.Nat.{ℕ, _+_, _*_, _<_}
 use mathlib.Core.Bool.{Bool, true, false, not, cond}
 use mathlib.Core.List.{List}
