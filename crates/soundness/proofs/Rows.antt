@@ -10,6 +10,7 @@ use borrow.Author.Tests.{ltb-true}
 use Rattle.tables.specs.Cases.{caseOf}
 use Rattle.tables.specs.Refusal.{unfitReply}
 use Rattle.loader.specs.Instruction.{operatorsOf, formAllowed}
+use Rattle.loader.proofs.SourceLaws.{form-past}
 use Rattle.tables.specs.declared.rows.Instruction.{Instruction}
 use Rattle.type_check.specs.Judgement.{pass}
 use Rattle.type_check.specs.Rule.{ruleOf}
@@ -135,7 +136,7 @@ module _ {regions cells : List ℕ} (typed : Typed regions cells) (x : Instructi
       )
   ready (suc (suc (suc (suc (suc (suc (suc (suc m)))))))) q h =
       let (a, b) = past (suc (suc (suc (suc (suc (suc (suc (suc m)))))))) (omega arith) in (
-        record { first = λ t. absurd (false≢true (sym a ∙ t)); second = λ t. absurd (false≢true (sym b ∙ t)); source = no-source (x .«source_form») (rw q at (k .form)) },
+        record { first = λ t. absurd (false≢true (sym a ∙ t)); second = λ t. absurd (false≢true (sym b ∙ t)); source = no-source (x .«source_form») (sym (form-past (x .family) (x .«source_form») (omega arith)) ∙ k .form) },
         λ n a p. keyed n a q (rw (past-keys 8 (suc (suc (suc (suc (suc (suc (suc (suc m)))))))) (families regions cells x n a) noWrites refl (omega arith)) (fine none)),
       )
 
