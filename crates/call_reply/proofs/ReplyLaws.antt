@@ -1,5 +1,5 @@
 -- What a judged reply says: each of its rows hits a cell that is there, and gives one write. Assumes nothing.
-use Prim.Native.Nat.{ℕ, zero, suc, _+_, _<_, _≤_}
+use Prim.Native.Nat.{ℕ, zero, suc, _+_, _<_}
 use mathlib.Core.Bool.{Bool, true, false, not, _&&_}
 use mathlib.Core.List.{List}
 use mathlib.Core.Path.{_≡_, refl, sym, ap, _∙_}
@@ -11,7 +11,7 @@ use Rattle.words.specs.Kind.{fitsKind}
 use Rattle.tables.specs.First.{every}
 use Rattle.tables.specs.Outcome.{Outcome, ok, refuse, _>>=_, _>>_, need}
 use Rattle.tables.specs.Rows.{regionLength}
-use Rattle.tables.specs.Cells.{cellCount}
+use Rattle.operands.specs.Reach.{Laid}
 use Rattle.tables.specs.Lookup.{lookupRegion}
 use Rattle.tables.specs.declared.lookup.Found.{Found}
 use Rattle.tables.specs.declared.lookup.Found.the-variants.{At, Nothing}
@@ -61,12 +61,12 @@ module _ (regions externs parameters arguments : List ℕ) (x : Instruction) (ca
       record { resolving = r; scalars = s; fits = rw q at f }
 
 -- each of its rows fits
-pub judged-replied : {regions externs parameters arguments : List ℕ} {x : Instruction} {reply : List ℕ} {call : ExternCall}
-    → cellCount regions ≤ 4096 → CallRanges externs parameters arguments x → Judged regions externs parameters arguments x reply call
+pub judged-replied : {regions externs parameters arguments : List ℕ} {x : Instruction} {reply : List ℕ} {call : Call}
+    → Laid regions → CallRanges externs parameters arguments x → Judged regions externs parameters arguments x reply call
     → (k : ℕ) → k < replyRows reply → Replied regions parameters arguments call reply k
 unfolding replyFits
-judged-replied {regions} {externs} {parameters} {arguments} {x} {reply} {call} few ranges j k h = record {
-  few = few;
+judged-replied {regions} {externs} {parameters} {arguments} {x} {reply} {call} laid ranges j k h = record {
+  laid = laid;
   counted = resolvable-counted regions externs parameters arguments x call ranges (j .resolving);
   scalars = j .scalars;
   row = h;
@@ -75,7 +75,7 @@ judged-replied {regions} {externs} {parameters} {arguments} {x} {reply} {call} f
 
 -- ---- the cell that a row hits
 
-offset-below : (mutable length kind : ℕ) (y : Reply) → fitsRow mutable length kind y ≡ true → y .offset < length
+pub offset-below : (mutable length kind : ℕ) (y : Reply) → fitsRow mutable length kind y ≡ true → y .offset < length
 unfolding fitsRow
 offset-below mutable length kind y e = ltb-true (y .offset) length (both (ltb (y .offset) length) _ (both (not (eqb mutable 0)) _ e .1) .0)
 
@@ -112,7 +112,7 @@ module _ (regions parameters arguments : List ℕ) (call : ExternCall) where
       let y = replyAt reply k in
       let h = replied-argument reply k (p .fits) in
       record {
-        few = p .few;
+        laid = p .laid;
         paired = counted-paired (y .argument) (p .counted) h;
         cell = cell-within (y .argument) y (resolutionAt regions parameters arguments call (y .argument)) refl
             (scalar-below (y .argument) (p .scalars) h (resolutionAt regions parameters arguments call (y .argument)) refl)

@@ -29,16 +29,24 @@ use Rattle.call_reply.specs.declared.reply.Reply.{Reply}
 abbrev pub replyWidth : ℕ
 replyWidth = 4
 
+abbrev pub replyLimit : ℕ
+replyLimit = 64
+
 abbrev pub replyRows : List ℕ → ℕ
 replyRows reply = length reply / replyWidth
 
 abbrev pub replyAt : List ℕ → ℕ → Reply
 replyAt reply k =
-    record { argument = getD reply (k * 4) 0; offset = getD reply (k * 4 + 1) 0; kind = getD reply (k * 4 + 2) 0; word = getD reply (k * 4 + 3) 0 }
+    record {
+      argument = getD reply (k * replyWidth) 0;
+      offset = getD reply (k * replyWidth + 1) 0;
+      kind = getD reply (k * replyWidth + 2) 0;
+      word = getD reply (k * replyWidth + 3) 0;
+    }
 
 -- "another length is unfit"
 unfoldable pub replyLengthFits : List ℕ → Bool
-replyLengthFits reply = eqb (length reply % replyWidth) 0 && leb (replyRows reply) 64
+replyLengthFits reply = eqb (length reply % replyWidth) 0 && leb (replyRows reply) replyLimit
 
 -- ---- resolved arguments
 

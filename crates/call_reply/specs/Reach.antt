@@ -1,5 +1,5 @@
 -- What the functions ask for, index safety alone: an argument that is looked at and the cell that it has at an offset are there.
-use Prim.Native.Nat.{ℕ, _<_, _≤_}
+use Prim.Native.Nat.{ℕ, _<_}
 use mathlib.Core.Bool.{true}
 use mathlib.Core.List.{List}
 use mathlib.Core.Path.{_≡_}
@@ -13,7 +13,7 @@ use Rattle.extern_call.specs.declared.call.CallResolution.{CallResolution}
 use Rattle.extern_call.specs.declared.call.CallResolution.the-variants.{Resolved, Failed}
 use Rattle.extern_call.specs.declared.resolved.ResolvedCallArgument.{ResolvedCallArgument}
 use Rattle.extern_call.specs.declared.resolved.ResolvedCallArgument.the-variants.{Vector, MemoryReference, Immediate}
-use Rattle.tables.specs.Cells.{cellCount}
+use Rattle.operands.specs.Reach.{Laid}
 use Rattle.call_reply.specs.Call.{replyRows, scalarsFit, replyRowFits}
 
 -- an index of a region that was found
@@ -32,8 +32,8 @@ HitWithin regions offset (Resolved a) = CellWithin regions offset a
 HitWithin regions offset (Failed error) = Unit {0}
 
 -- argument i and its cell
-pub record Hit (regions parameters arguments : List ℕ) (call : ExternCall) (i offset : ℕ) : Type 0 where
-  pub few : cellCount regions ≤ 4096
+pub record Hit (regions parameters arguments : List ℕ) (call : Call) (i offset : ℕ) : Type 0 where
+  pub laid : Laid regions
   pub paired : Paired parameters arguments call i
   pub cell : HitWithin regions offset (resolutionAt regions parameters arguments call i)
 
@@ -43,8 +43,8 @@ pub record Judging (parameters arguments : List ℕ) (call : ExternCall) (reply 
   pub row : k < replyRows reply
 
 -- row k of a reply that fits
-pub record Replied (regions parameters arguments : List ℕ) (call : ExternCall) (reply : List ℕ) (k : ℕ) : Type 0 where
-  pub few : cellCount regions ≤ 4096
+pub record Replied (regions parameters arguments : List ℕ) (call : Call) (reply : List ℕ) (k : ℕ) : Type 0 where
+  pub laid : Laid regions
   pub counted : Counted parameters arguments call
   pub scalars : scalarsFit regions parameters arguments call ≡ true
   pub row : k < replyRows reply

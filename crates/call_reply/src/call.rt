@@ -1,9 +1,8 @@
 // A CALL: the whole reply is judged, then each of its rows gives a write.
 ghost use mathlib.Core.Path.{_≡_};
 ghost use mathlib.Core.Bool.{true, false};
-ghost use Prim.Native.Nat.{_<_, _≤_};
 ghost use Rattle.tables.specs.Lookup.{lookupRegion};
-ghost use Rattle.tables.specs.Cells.{cellCount};
+ghost use Rattle.operands.specs.Reach.{Laid};
 ghost use Rattle.extern_call.specs.Call.{resolutionAt, callAnswer, CallRanges, Counted, Paired};
 ghost use Rattle.call_reply.specs.Call.{indexFound, scalarFits, hits, cellFound, cellHit, ofResolved, scalarsFit, replyRowFits, replyFits, replyWrite, callReady, callJudged};
 ghost use Rattle.call_reply.specs.Reach.{FoundWithin, CellWithin, Hit, Judging, Replied};
@@ -20,7 +19,7 @@ use extern_call::call::resolves;
 use extern_call::resolved::ResolvedCallArgument;
 use journal::cells::Write;
 use operands::address::index_fits;
-use operands::address::region_start;
+use operands::address::region_origin;
 use tables::lookup::Found;
 use tables::lookup::lookup_region;
 use tables::refusal::INDEX_PAST_LENGTH;
@@ -204,17 +203,17 @@ pub fn judge_call(
 }
 
 fn named_cell(regions: &[u64], name: u64, i: u64) -> usize
-    requires { ⌜ (cellCount (now regions) ≤ 4096) × FoundWithin (now regions) i (lookupRegion (now regions) name) ⌝ }
+    requires { ⌜ Laid (now regions) × FoundWithin (now regions) i (lookupRegion (now regions) name) ⌝ }
     ensures { λ c. ⌜ c ≡ cellFound (now (regions .entry)) i (lookupRegion (now (regions .entry)) name) ⌝ }
 {
     let Found::At(r) = lookup_region(regions, name) else {
         return 0;
     };
-    region_start(regions, r) + i as usize
+    region_origin(regions, r) + i as usize
 }
 
 fn argument_cell(regions: &[u64], a: ResolvedCallArgument, offset: u64) -> usize
-    requires { ⌜ (cellCount (now regions) ≤ 4096) × CellWithin (now regions) offset a ⌝ }
+    requires { ⌜ Laid (now regions) × CellWithin (now regions) offset a ⌝ }
     ensures { λ c. ⌜ c ≡ cellHit (now (regions .entry)) offset a ⌝ }
 {
     match a {

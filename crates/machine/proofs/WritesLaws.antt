@@ -2,9 +2,14 @@
 use Prim.Native.Nat.{ℕ, zero, suc, _<_}
 use mathlib.Core.Bool.{true}
 use mathlib.Core.List.{List, [], _∷_}
-use mathlib.Core.Path.{_≡_, refl}
-use lib.ListN.{length, getD}
+use mathlib.Core.Path.{_≡_, refl, subst}
+use native.Mathlib.Omega.{arith}
+use lib.ListN.{length}
 use lib.Dec.{eqb, ltb}
+use Rattle.words.specs.Kind.{real, integerLiteral, realLiteral}
+use Rattle.tables.specs.Cases.{caseOf}
+use Rattle.tables.specs.Family as family
+use Rattle.tables.specs.Names.{operandsOf, namesFirst, indexesFirst, indexesSecond}
 use Rattle.tables.specs.Refusal.{noRule}
 use Rattle.tables.specs.Outcome.{Outcome, ok, refuse}
 use Rattle.tables.specs.Rows.{regionRows}
@@ -15,8 +20,8 @@ use Rattle.journal.specs.declared.cells.Write.{Write}
 use Rattle.journal.specs.Each.{Each, none, also}
 use Rattle.operands.specs.Address.{indexedOf, namesOf, addressesOf}
 use Rattle.operands.specs.Cells.{cellKind, readOf, sourceOf, offsetOf}
-use Rattle.operators.specs.Operators.{integerLiteral, realLiteral, arithmeticKinds, arithmeticResult, comparisonKinds, logicKinds, logicResult, unaryKinds}
-use Rattle.machine.specs.Families.{putInto, arithmeticOf, comparisonOf, logicOf, unaryOf, moveOf, exchangeOf, loadOf, storeOf, familyOf}
+use Rattle.operators.specs.Operators.{arithmeticKinds, arithmeticResult, comparisonKinds, logicKinds, logicResult, unaryKinds}
+use Rattle.machine.specs.Families.{putInto, noWrites, families, arithmeticOf, comparisonOf, logicOf, unaryOf, moveOf, exchangeOf, loadOf, storeOf, familyOf}
 use Rattle.machine.specs.Outcome.{plainOutcome}
 use Rattle.operands.specs.declared.cell.Value.{Value}
 use Rattle.operands.specs.declared.address.NamedRegions.{NamedRegions}
@@ -24,6 +29,8 @@ use Rattle.operands.specs.declared.address.Addresses.{Addresses}
 use Rattle.operands.proofs.Binds.{bound}
 use Rattle.operands.proofs.AddressLaws.{indexed-within}
 use Rattle.operands.proofs.Reaches.{Regions, Cells, names-within, addresses-within}
+use Rattle.operands.specs.Reach.{Laid}
+use Rattle.machine.proofs.Past.{at-key, past-keys}
 use Rattle.machine.proofs.Ends.{Ends, Any, fine, turned, bind, tested, either, gives, any}
 
 -- the cell of a write is one of the cells
@@ -33,19 +40,28 @@ Within regions w = w .cell < cellCount regions
 pub single : {A : Type 0} {P : A → Type 0} {x : A} → P x → Each P (x ∷ [])
 single p = also p none
 
--- how many changes a row of each family makes, from family 0: "exchange 2"; "Frame, NOP: no change"
-abbrev pub changes : List ℕ
-changes = 1 ∷ 1 ∷ 1 ∷ 1 ∷ 1 ∷ 2 ∷ 1 ∷ 1 ∷ []
+-- how many changes a row of each family makes: "exchange 2"; "Frame, NOP: no change"
+abbrev pub changes : List (ℕ × ℕ)
+changes =
+    (family.arithmetic, 1)
+    ∷ (family.comparison, 1)
+    ∷ (family.binaryLogic, 1)
+    ∷ (family.unary, 1)
+    ∷ (family.move, 1)
+    ∷ (family.exchange, 2)
+    ∷ (family.load, 1)
+    ∷ (family.store, 1)
+    ∷ []
 
 unfoldable pub changesOf : ℕ → ℕ
-changesOf family = getD changes family 0
+changesOf family = caseOf family changes 0
 
 -- n writes, each to a cell that is there
 pub record Written (regions : List ℕ) (n : ℕ) (ws : List Write) : Type 0 where
   pub within : Each (Within regions) ws
   pub count : length ws ≡ n
 
-module _ (regions cells : List ℕ) where
+module _ {regions : List ℕ} (laid : Laid regions) (cells : List ℕ) where
   abbrev Reaches : ℕ → Outcome (List Write) → Type 0
   Reaches n o = Ends Any (Written regions n) o
 
@@ -54,56 +70,60 @@ module _ (regions cells : List ℕ) where
   once h = fine (record { within = single h; count = refl })
 
   put-within : (c : ℕ) (v : Value) → c < cellCount regions → Reaches 1 (putInto cells c v)
-  unfolding putInto
+  unfolding putInto caseOf
   put-within c v h =
-      either (eqb (v .kind) integerLiteral) (λ e. tested noRule (ltb (cellKind cells c) 3) tt (λ t. once h))
-      (λ e. either (eqb (v .kind) realLiteral) (λ e. tested noRule (eqb (cellKind cells c) 3) tt (λ t. once h)) (λ e. once h))
+      either (eqb (v .kind) integerLiteral) (λ e. tested noRule (ltb (cellKind cells c) real) tt (λ t. once h))
+      (λ e. either (eqb (v .kind) realLiteral) (λ e. tested noRule (eqb (cellKind cells c) real) tt (λ t. once h)) (λ e. once h))
 
   -- the cell that an offset reaches
   reached : (r i : ℕ) → r < regionRows regions → (o : Outcome ℕ) → indexedOf regions r i ≡ o → Ends Any (λ c. c < cellCount regions) o
-  reached r i h (ok c) e = fine (indexed-within regions r i h e)
+  reached r i h (ok c) e = fine (indexed-within laid r i h e)
   reached r i h (refuse n) e = turned tt
 
   module _ (x : Instruction) (n : NamedRegions) (a : Addresses) where
     -- what a family's writes ask for
     record Targets (f : ℕ) : Type 0 where
-      first : ltb f 7 ≡ true → a .first < cellCount regions
-      second : f ≡ 5 → a .second < cellCount regions
-      region : f ≡ 7 → n .first < regionRows regions
+      first : indexesFirst f ≡ true → a .first < cellCount regions
+      second : indexesSecond f ≡ true → a .second < cellCount regions
+      region : namesFirst f ≡ true → n .first < regionRows regions
+
+    picked : {f : ℕ} (m : ℕ) → x .family ≡ f → Reaches m (caseOf f (families regions cells x n a) noWrites) → Reaches m (familyOf regions cells x n a)
+    unfolding familyOf
+    picked m q h = subst (λ (o : Outcome (List Write)). Reaches m o) (at-key (families regions cells x n a) noWrites q) h
 
     family-within : (f : ℕ) → x .family ≡ f → Targets f → Reaches (changesOf f) (familyOf regions cells x n a)
-    unfolding changesOf familyOf arithmeticOf comparisonOf logicOf unaryOf moveOf exchangeOf loadOf storeOf
-    family-within zero q t = rw q
+    unfolding changesOf caseOf indexesFirst indexesSecond namesFirst operandsOf arithmeticOf comparisonOf logicOf unaryOf moveOf exchangeOf loadOf storeOf
+    family-within zero q t = picked _ q
         (bind (any (readOf cells (a .first))) (λ d u. bind (any (sourceOf cells x (a .source))) (λ s u. tested noRule (arithmeticKinds (d .kind) (s .kind)) tt (λ e.
         bind (any (arithmeticResult (x .operator) (d .kind) (d .word) (s .word))) (λ w u. once (t .first refl))))))
-    family-within (suc zero) q t = rw q
+    family-within (suc zero) q t = picked _ q
         (bind (any (readOf cells (a .second))) (λ l u. bind (any (sourceOf cells x (a .source))) (λ s u. tested noRule (comparisonKinds (l .kind) (s .kind)) tt (λ e.
         once (t .first refl)))))
-    family-within (suc (suc zero)) q t = rw q
+    family-within (suc (suc zero)) q t = picked _ q
         (bind (any (readOf cells (a .first))) (λ d u. bind (any (sourceOf cells x (a .source))) (λ s u. tested noRule (logicKinds (d .kind) (s .kind)) tt (λ e.
         bind (any (logicResult (x .operator) (d .kind) (d .word) (s .word))) (λ w u. once (t .first refl))))))
-    family-within (suc (suc (suc zero))) q t = rw q
+    family-within (suc (suc (suc zero))) q t = picked _ q
         (bind (any (readOf cells (a .first))) (λ d u. tested noRule (unaryKinds (x .operator) (d .kind)) tt (λ e. once (t .first refl))))
-    family-within (suc (suc (suc (suc zero)))) q t = rw q
+    family-within (suc (suc (suc (suc zero)))) q t = picked _ q
         (bind (any (sourceOf cells x (a .source))) (λ s u. put-within (a .first) s (t .first refl)))
-    family-within (suc (suc (suc (suc (suc zero))))) q t = rw q
+    family-within (suc (suc (suc (suc (suc zero))))) q t = picked _ q
         (bind (any (readOf cells (a .first))) (λ d u. bind (any (readOf cells (a .second))) (λ e u.
         fine (record { within = also (t .first refl) (single (t .second refl)); count = refl }))))
-    family-within (suc (suc (suc (suc (suc (suc zero)))))) q t = rw q
+    family-within (suc (suc (suc (suc (suc (suc zero)))))) q t = picked _ q
         (bind (any (offsetOf cells (a .source))) (λ i u. bind (any (indexedOf regions (n .second) i)) (λ c u.
         bind (any (readOf cells c)) (λ v u. once (t .first refl)))))
-    family-within (suc (suc (suc (suc (suc (suc (suc zero))))))) q t = rw q
+    family-within (suc (suc (suc (suc (suc (suc (suc zero))))))) q t = picked _ q
         (bind (any (offsetOf cells (a .second))) (λ i u. bind (any (sourceOf cells x (a .source))) (λ s u.
         bind (reached (n .first) i (t .region refl) (indexedOf regions (n .first) i) refl) (λ c h. put-within c s h))))
-    family-within (suc (suc (suc (suc (suc (suc (suc (suc m)))))))) q t = rw q (fine (record { within = none; count = refl }))
+    family-within (suc (suc (suc (suc (suc (suc (suc (suc m)))))))) q t =
+        let f : ℕ = suc (suc (suc (suc (suc (suc (suc (suc m))))))) in
+        picked (caseOf f changes 0) q
+        (rw (past-keys 8 f (families regions cells x n a) noWrites refl (omega arith), past-keys 8 f changes 0 refl (omega arith))
+        (fine (record { within = none; count = refl })))
 
     -- they were found
     targets : Regions regions x n → Cells regions x a → Targets (x .family)
-    targets g k = record {
-      first = k .first;
-      second = λ e. k .second (rw e refl);
-      region = λ e. g .first (rw e refl);
-    }
+    targets g k = record { first = k .first; second = k .second; region = g .first }
 
   module _ (x : Instruction) (reply : List ℕ) {ws : List Write} (e : plainOutcome regions cells x reply ≡ ok ws) where
     written : Written regions (changesOf (x .family)) ws
@@ -113,7 +133,7 @@ module _ (regions cells : List ℕ) where
         let b = bound (namesOf regions x) _ ws e₁ in
         let c = bound (addressesOf regions x (b .value)) _ ws (b .rest) in
         let g = names-within regions x (b .given) in
-        gives ws (family-within x (b .value) (c .value) (x .family) refl (targets x (b .value) (c .value) g (addresses-within regions x g (c .given)))) (c .rest)
+        gives ws (family-within x (b .value) (c .value) (x .family) refl (targets x (b .value) (c .value) g (addresses-within laid x g (c .given)))) (c .rest)
 
     -- so the writer's index safety needs no typing
     pub writes-within : Each (Within regions) ws

@@ -1,17 +1,17 @@
 -- What a row of each family does, from its operands' cells on. 01, Order: "18 row's cells, 14 index from a cell, 18 cell reached, 15, 16", then the writes.
 use Prim.Native.Nat.{ℕ}
-use mathlib.Core.Bool.{cond}
 use mathlib.Core.List.{List, [], _∷_}
-use lib.ListN.{getD}
 use lib.Dec.{eqb, ltb}
-use Rattle.words.specs.Kind.{widthOf}
+use Rattle.words.specs.Kind.{bit, real, integerLiteral, realLiteral, widthOf}
 use Rattle.words.specs.Width.{lowBits}
+use Rattle.tables.specs.Cases.{caseOf}
+use Rattle.tables.specs.Family as family
 use Rattle.tables.specs.Refusal.{noRule}
 use Rattle.tables.specs.Outcome.{Outcome, ok, _>>=_, _>>_, need}
 use Rattle.tables.specs.declared.rows.Instruction.{Instruction}
 use Rattle.operands.specs.Cells.{cellKind, readOf, sourceOf, offsetOf, write}
 use Rattle.operands.specs.Address.{indexedOf}
-use Rattle.operators.specs.Operators.{integerLiteral, realLiteral, arithmeticKinds, arithmeticResult, comparisonKinds, comparisonResult, logicKinds, logicResult, unaryKinds, unaryResult}
+use Rattle.operators.specs.Operators.{arithmeticKinds, arithmeticResult, comparisonKinds, comparisonResult, logicKinds, logicResult, unaryKinds, unaryResult}
 use Rattle.operands.specs.declared.cell.Value.{Value}
 use Rattle.journal.specs.declared.cells.Write.{Write}
 use Rattle.operands.specs.declared.address.NamedRegions.{NamedRegions}
@@ -20,13 +20,26 @@ use Rattle.operands.specs.declared.address.Addresses.{Addresses}
 abbrev pub one : ℕ → ℕ → ℕ → List Write
 one c k w = write c k w ∷ []
 
--- The source put into cell c. "Move, load, store copy kind and word. An integer literal takes the target cell's kind, keeping the low 1, 8 or 64 bits;
--- no rule for REAL." "real literal elsewhere is 2". "in move and store a literal's target is read for its kind alone"
+-- ---- the source put into cell c: "in move and store a literal's target is read for its kind alone"
+
+-- "An integer literal takes the target cell's kind, keeping the low 1, 8 or 64 bits; no rule for REAL."
+abbrev pub putInteger : List ℕ → ℕ → ℕ → Outcome (List Write)
+putInteger cells c word = need (ltb (cellKind cells c) real) noRule >> ok (one c (cellKind cells c) (lowBits (widthOf (cellKind cells c)) word))
+
+-- "real literal elsewhere is 2"
+abbrev pub putReal : List ℕ → ℕ → ℕ → Outcome (List Write)
+putReal cells c word = need (eqb (cellKind cells c) real) noRule >> ok (one c real word)
+
+-- "Move, load, store copy kind and word."
+abbrev pub copied : ℕ → Value → Outcome (List Write)
+copied c s = ok (one c (s .kind) (s .word))
+
+abbrev pub literals : List ℕ → ℕ → ℕ → List (ℕ × Outcome (List Write))
+literals cells c word = (integerLiteral, putInteger cells c word) ∷ (realLiteral, putReal cells c word) ∷ []
+
+-- an integer literal, a real literal, else a cell's value
 unfoldable pub putInto : List ℕ → ℕ → Value → Outcome (List Write)
-putInto cells c s =
-    cond (eqb (s .kind) integerLiteral) (need (ltb (cellKind cells c) 3) noRule >> ok (one c (cellKind cells c) (lowBits (widthOf (cellKind cells c)) (s .word))))
-    (cond (eqb (s .kind) realLiteral) (need (eqb (cellKind cells c) 3) noRule >> ok (one c 3 (s .word)))
-    (ok (one c (s .kind) (s .word))))
+putInto cells c s = caseOf (s .kind) (literals cells c (s .word)) (copied c s)
 
 -- ---- the families; x is the row, n its regions, a its addresses
 
@@ -44,7 +57,7 @@ comparisonOf cells x a = do
   l ← readOf cells (a .second)
   s ← sourceOf cells x (a .source)
   need (comparisonKinds (l .kind) (s .kind)) noRule
-  ok (one (a .first) 0 (comparisonResult (x .operator) (l .kind) (l .word) (s .word)))
+  ok (one (a .first) bit (comparisonResult (x .operator) (l .kind) (l .word) (s .word)))
 
 unfoldable pub logicOf : List ℕ → Instruction → Addresses → Outcome (List Write)
 logicOf cells x a = do
@@ -65,7 +78,7 @@ moveOf cells x a = do
   s ← sourceOf cells x (a .source)
   putInto cells (a .first) s
 
--- "Exchange swaps." The order of the two writes is free: first, then second.
+-- "Exchange swaps." First, then second; the order is free (Exchange.antt).
 unfoldable pub exchangeOf : List ℕ → Addresses → Outcome (List Write)
 exchangeOf cells a = do
   d ← readOf cells (a .first)
@@ -92,11 +105,18 @@ storeOf regions cells x n a = do
 abbrev pub noWrites : Outcome (List Write)
 noWrites = ok []
 
-abbrev pub families : List ℕ → List ℕ → Instruction → NamedRegions → Addresses → List (Outcome (List Write))
+abbrev pub families : List ℕ → List ℕ → Instruction → NamedRegions → Addresses → List (ℕ × Outcome (List Write))
 families regions cells x n a =
-    arithmeticOf cells x a ∷ comparisonOf cells x a ∷ logicOf cells x a ∷ unaryOf cells x a ∷ moveOf cells x a
-    ∷ exchangeOf cells a ∷ loadOf regions cells n a ∷ storeOf regions cells x n a ∷ []
+    (family.arithmetic, arithmeticOf cells x a)
+    ∷ (family.comparison, comparisonOf cells x a)
+    ∷ (family.binaryLogic, logicOf cells x a)
+    ∷ (family.unary, unaryOf cells x a)
+    ∷ (family.move, moveOf cells x a)
+    ∷ (family.exchange, exchangeOf cells a)
+    ∷ (family.load, loadOf regions cells n a)
+    ∷ (family.store, storeOf regions cells x n a)
+    ∷ []
 
--- by the family's number
+-- by the family; the rest are frame rows and NOP, as 9 and CALL were looked for before
 unfoldable pub familyOf : List ℕ → List ℕ → Instruction → NamedRegions → Addresses → Outcome (List Write)
-familyOf regions cells x n a = getD (families regions cells x n a) (x .family) noWrites
+familyOf regions cells x n a = caseOf (x .family) (families regions cells x n a) noWrites

@@ -7,7 +7,7 @@ use Rattle.tables.specs.Rows.{regionRows}
 use Rattle.tables.specs.Cells.{cellCount}
 use Rattle.loader.specs.Instruction.{formAllowed}
 use Rattle.tables.specs.declared.rows.Instruction.{Instruction}
-use Rattle.operands.specs.Address.{namesFirst, indexesFirst, namesSecond, indexesSecond, namesSource}
+use Rattle.tables.specs.Names.{namesFirst, indexesFirst, namesSecond, indexesSecond, namesSource}
 use Rattle.operands.specs.declared.address.NamedRegions.{NamedRegions}
 use Rattle.operands.specs.declared.address.Addresses.{Addresses}
 use Rattle.operands.specs.Reach.{There, SourceThere, Layout}

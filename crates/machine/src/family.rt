@@ -5,6 +5,7 @@ ghost use Rattle.machine.specs.Outcome.{rowOutcome};
 ghost use Rattle.operands.specs.Reach.{There};
 ghost use Rattle.machine.specs.Reach.{TargetAndSource, Compared, Exchanged, Loading, Storing, Placed};
 use crate::outcome::RowOutcome;
+use journal::cells::CELL_WIDTH;
 use journal::cells::Write;
 use operands::address::Addresses;
 use operands::address::Indexed;
@@ -16,8 +17,6 @@ use operands::cell::Value;
 use operands::cell::read_cell;
 use operands::cell::read_offset;
 use operands::cell::read_source;
-use operators::INTEGER_LITERAL;
-use operators::REAL_LITERAL;
 use tables::family;
 use tables::refusal::INDEX_PAST_LENGTH;
 use tables::refusal::NEGATIVE_SHIFT_COUNT;
@@ -36,32 +35,34 @@ fn put_into(cells: &[u64], c: usize, s: Value) -> RowOutcome
 {
     let word = s.word;
     let code = s.kind;
-    let kind = cells[2 * c];
-    if code == INTEGER_LITERAL {
-        if kind < kind::REAL {
-            return RowOutcome::One(Write {
-                cell: c,
-                kind,
-                word: width::low_bits(kind, word),
-            });
+    let kind = cells[CELL_WIDTH * c];
+    match code {
+        kind::INTEGER_LITERAL => {
+            if kind < kind::REAL {
+                return RowOutcome::One(Write {
+                    cell: c,
+                    kind,
+                    word: width::low_bits(kind, word),
+                });
+            }
+            RowOutcome::Refused(NO_RULE)
         }
-        return RowOutcome::Refused(NO_RULE);
-    }
-    if code == REAL_LITERAL {
-        if kind == kind::REAL {
-            return RowOutcome::One(Write {
-                cell: c,
-                kind: kind::REAL,
-                word,
-            });
+        kind::REAL_LITERAL => {
+            if kind == kind::REAL {
+                return RowOutcome::One(Write {
+                    cell: c,
+                    kind: kind::REAL,
+                    word,
+                });
+            }
+            RowOutcome::Refused(NO_RULE)
         }
-        return RowOutcome::Refused(NO_RULE);
+        _ => RowOutcome::One(Write {
+            cell: c,
+            kind: code,
+            word,
+        }),
     }
-    RowOutcome::One(Write {
-        cell: c,
-        kind: code,
-        word,
-    })
 }
 
 pub fn arithmetic(cells: &[u64], x: Instruction, a: Addresses) -> RowOutcome

@@ -8,14 +8,16 @@ use lib.ListN.{length, getD}
 use lib.Dec.{ltb}
 use borrow.Author.Tests.{lt-ltb, le-ltb}
 use Rattle.tables.specs.Rows.{regionRows, regionKind, regionLength}
-use Rattle.tables.specs.Cells.{firstCell, cellCount}
+use Rattle.tables.specs.Cells.{cellsIn, firstCell, cellCount}
 use Rattle.tables.proofs.CellsLaws.{first-cell-next, first-cell-mono}
 use Rattle.journal.specs.Cells.{held}
 use Rattle.journal.specs.declared.cells.Write.{Write}
+use Rattle.operands.specs.Address.{addressOf}
+use Rattle.operands.specs.Reach.{Laid}
 use Rattle.operands.specs.Kinds.{regionAmong, regionOf, declaredKind, zerosFrom, zeros}
 
 module _ (regions : List ℕ) where
-  region-among : (n r i : ℕ) → r < n → i < regionLength regions r → regionAmong regions n (firstCell regions r + i) ≡ r
+  region-among : (n r i : ℕ) → r < n → i < cellsIn regions r → regionAmong regions n (firstCell regions r + i) ≡ r
   unfolding regionAmong
   region-among zero r i h l = absurd (omega arith)
   region-among (suc n) r i h l = at (ℕ-discrete r n) (λ q. region-among n r i q l)
@@ -26,15 +28,15 @@ module _ (regions : List ℕ) where
           let k : firstCell regions (r + 1) ≤ firstCell regions n = first-cell-mono regions (r + 1) n (omega arith) in
           rw (lt-ltb (firstCell regions r + i) (firstCell regions n) (omega (arith, first-cell-next regions r))) (ih (omega arith))
 
-  -- the cell at an index of a region lies in that region
-  pub region-of : (r i : ℕ) → r < regionRows regions → i < regionLength regions r → regionOf regions (firstCell regions r + i) ≡ r
+  -- a cell that a region adds lies in it
+  pub region-of : (r i : ℕ) → r < regionRows regions → i < cellsIn regions r → regionOf regions (firstCell regions r + i) ≡ r
   unfolding regionOf
   region-of r i h l = region-among (regionRows regions) r i h l
 
   -- and has its kind
-  pub kind-at : (r i : ℕ) → r < regionRows regions → i < regionLength regions r → declaredKind regions (firstCell regions r + i) ≡ regionKind regions r
+  pub kind-own : (r i : ℕ) → r < regionRows regions → i < cellsIn regions r → declaredKind regions (firstCell regions r + i) ≡ regionKind regions r
   unfolding declaredKind
-  kind-at r i h l = ap (regionKind regions) (region-of r i h l)
+  kind-own r i h l = ap (regionKind regions) (region-of r i h l)
 
   -- ---- zero cells
 
@@ -65,3 +67,9 @@ module _ (regions : List ℕ) where
       let e : 0 + c ≡ c = omega arith in
       let (k, w) = words-from (cellCount regions) 0 c h in
       λ t. record { cell = c; kind = (k ∙ ap (declaredKind regions) e) t; word = w t }
+
+-- the cell at an index of a region has the region's kind
+pub kind-at : {regions : List ℕ} → Laid regions → (r i : ℕ) → r < regionRows regions → i < regionLength regions r
+    → declaredKind regions (addressOf regions r i) ≡ regionKind regions r
+unfolding addressOf
+kind-at {regions} laid r i h l = kind-own regions r i h l

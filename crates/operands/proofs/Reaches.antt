@@ -1,31 +1,34 @@
 -- Where a row's names and written indices were found, the regions and the cells are there. Assumes nothing.
 use Prim.Native.Nat.{ℕ, _<_}
-use mathlib.Core.Bool.{Bool, true, false, _||_}
+use mathlib.Core.Bool.{true}
 use mathlib.Core.List.{List}
 use mathlib.Core.Path.{_≡_, refl}
 use native.Mathlib.Omega.{arith}
-use borrow.Author.Tests.{ltb-true, lt-ltb}
-use lib.Dec.{eqb}
 use Rattle.tables.specs.Outcome.{ok}
 use Rattle.tables.specs.Rows.{regionRows}
 use Rattle.tables.specs.Cells.{cellCount}
 use Rattle.tables.specs.declared.rows.Instruction.{Instruction}
-use Rattle.operands.specs.Address.{namesFirst, indexesFirst, namesSecond, indexesSecond, namesSource, namedOf, namesOf, writtenOf, addressesOf}
-use Rattle.operands.specs.Reach.{There, Layout}
+use Rattle.tables.specs.Names.{Use, unused, region, reference, isName, hasIndex, operandsOf, namesFirst, indexesFirst, namesSecond, indexesSecond, namesSource}
+use Rattle.operands.specs.Address.{namedOf, namesOf, writtenOf, addressesOf}
+use Rattle.operands.specs.Reach.{There, Laid, Layout}
 use Rattle.operands.specs.declared.address.NamedRegions.{NamedRegions}
 use Rattle.operands.specs.declared.address.Addresses.{Addresses}
 use Rattle.operands.proofs.Binds.{bound}
 use Rattle.operands.proofs.AddressLaws.{named-within, written-within}
 
 -- an operand with a written index is a name
-pub first-named : (family : ℕ) → indexesFirst family ≡ true → namesFirst family ≡ true
-first-named family e = lt-ltb family 8 (omega (arith, ltb-true family 7 e))
+indexed-name : (u : Use) → hasIndex u ≡ true → isName u ≡ true
+indexed-name unused e = e
+indexed-name region e = refl
+indexed-name reference e = refl
 
-pub second-named : (a b c d : Bool) → (a || (b || d)) ≡ true → (a || (b || (c || d))) ≡ true
-second-named true b c d e = refl
-second-named false true c d e = refl
-second-named false false true d e = refl
-second-named false false false d e = e
+pub first-named : (family : ℕ) → indexesFirst family ≡ true → namesFirst family ≡ true
+unfolding indexesFirst namesFirst
+first-named family e = indexed-name (operandsOf family .first) e
+
+pub second-named : (family : ℕ) → indexesSecond family ≡ true → namesSecond family ≡ true
+unfolding indexesSecond namesSecond
+second-named family e = indexed-name (operandsOf family .second) e
 
 -- the regions of all names
 pub record Regions (regions : List ℕ) (x : Instruction) (n : NamedRegions) : Type 0 where
@@ -47,24 +50,25 @@ module _ (regions : List ℕ) (x : Instruction) where
         source = named-within regions (namesSource (x .«source_form»)) (x .«source_first») (d .given);
       })
 
-  -- the cells of all written indices
-  pub record Cells (a : Addresses) : Type 0 where
-    pub first : indexesFirst (x .family) ≡ true → a .first < cellCount regions
-    pub second : indexesSecond (x .family) ≡ true → a .second < cellCount regions
-    pub source : namesSource (x .«source_form») ≡ true → a .source < cellCount regions
+-- the cells of all written indices
+pub record Cells (regions : List ℕ) (x : Instruction) (a : Addresses) : Type 0 where
+  pub first : indexesFirst (x .family) ≡ true → a .first < cellCount regions
+  pub second : indexesSecond (x .family) ≡ true → a .second < cellCount regions
+  pub source : namesSource (x .«source_form») ≡ true → a .source < cellCount regions
 
-  pub addresses-within : {n : NamedRegions} → Regions regions x n → {a : Addresses} → addressesOf regions x n ≡ ok a → Cells a
-  unfolding addressesOf
-  addresses-within {n} g {a} e =
-      let b = bound (writtenOf regions (indexesFirst (x .family)) (n .first) (x .«first_index»)) _ a e in
-      let c = bound (writtenOf regions (indexesSecond (x .family)) (n .second) (x .«second_index»)) _ a (b .rest) in
-      let d = bound (writtenOf regions (namesSource (x .«source_form»)) (n .source) (x .«source_second»)) _ a (c .rest) in
-      let q : record { first = b .value; second = c .value; source = d .value } ≡ a = cc (d .rest) in
-      rw (← q) (record {
-        first = written-within regions (indexesFirst (x .family)) (n .first) (x .«first_index») (λ t. g .first (first-named (x .family) t)) (b .given);
-        second = written-within regions (indexesSecond (x .family)) (n .second) (x .«second_index») (λ t. g .second (second-named (eqb (x .family) 1) (eqb (x .family) 5) (eqb (x .family) 6) (eqb (x .family) 7) t)) (c .given);
-        source = written-within regions (namesSource (x .«source_form»)) (n .source) (x .«source_second») (g .source) (d .given);
-      })
+pub addresses-within : {regions : List ℕ} → Laid regions → (x : Instruction) {n : NamedRegions} → Regions regions x n → {a : Addresses}
+    → addressesOf regions x n ≡ ok a → Cells regions x a
+unfolding addressesOf
+addresses-within {regions} laid x {n} g {a} e =
+    let b = bound (writtenOf regions (indexesFirst (x .family)) (n .first) (x .«first_index»)) _ a e in
+    let c = bound (writtenOf regions (indexesSecond (x .family)) (n .second) (x .«second_index»)) _ a (b .rest) in
+    let d = bound (writtenOf regions (namesSource (x .«source_form»)) (n .source) (x .«source_second»)) _ a (c .rest) in
+    let q : record { first = b .value; second = c .value; source = d .value } ≡ a = cc (d .rest) in
+    rw (← q) (record {
+      first = written-within laid (indexesFirst (x .family)) (n .first) (x .«first_index») (λ t. g .first (first-named (x .family) t)) (b .given);
+      second = written-within laid (indexesSecond (x .family)) (n .second) (x .«second_index») (λ t. g .second (second-named (x .family) t)) (c .given);
+      source = written-within laid (namesSource (x .«source_form»)) (n .source) (x .«source_second») (g .source) (d .given);
+    })
 
 -- ---- in the cells of all regions
 

@@ -1,14 +1,15 @@
 -- Where a row's operands lie: the regions that it names, then the cells at its written indices.
 use Prim.Native.Nat.{ℕ, _+_}
-use mathlib.Core.Bool.{Bool, true, false, not, _||_, _&&_}
+use mathlib.Core.Bool.{Bool, true, false, not, _&&_}
 use mathlib.Core.List.{List}
-use lib.Dec.{eqb, ltb}
+use lib.Dec.{ltb}
 use Rattle.words.specs.Integer.{integerIsNegative}
 use Rattle.tables.specs.Refusal.{indexPastLength, noRule}
 use Rattle.tables.specs.Outcome.{Outcome, ok, refuse, _>>=_, _>>_, need}
 use Rattle.tables.specs.Rows.{regionLength}
 use Rattle.tables.specs.Lookup.{lookupRegion}
-use Rattle.tables.specs.Cells.{firstCell}
+use Rattle.tables.specs.Cells.{origin}
+use Rattle.tables.specs.Names.{namesFirst, indexesFirst, namesSecond, indexesSecond, namesSource}
 use Rattle.tables.specs.declared.lookup.Found.{Found}
 use Rattle.tables.specs.declared.lookup.Found.the-variants as F
 use Rattle.tables.specs.declared.rows.Instruction.{Instruction}
@@ -25,7 +26,7 @@ use Rattle.operands.specs.declared.address.Indexed.the-variants as A
 
 -- The cell at an index of region r. 01, Machine: "Regions lie in table order". Every address is made here; its laws are in proofs/AddressLaws.antt.
 unfoldable pub addressOf : List ℕ → ℕ → ℕ → ℕ
-addressOf regions r i = firstCell regions r + i
+addressOf regions r i = origin regions r + i
 
 -- 14: "index at or past length, or negative"
 unfoldable pub indexFits : List ℕ → ℕ → ℕ → Bool
@@ -33,26 +34,6 @@ indexFits regions r i = not (integerIsNegative i) && ltb i (regionLength regions
 
 unfoldable pub indexedOf : List ℕ → ℕ → ℕ → Outcome ℕ
 indexedOf regions r i = need (indexFits regions r i) indexPastLength >> ok (addressOf regions r i)
-
--- ---- which operands are names, and which have a written index, by family and source form alone
-
--- the first operand in families 0 to 7; "7 store (first = destination region ..)", "A region operand has index 0, which is no written index"
-abbrev pub namesFirst : ℕ → Bool
-namesFirst family = ltb family 8
-
-abbrev pub indexesFirst : ℕ → Bool
-indexesFirst family = ltb family 7
-
--- the second in comparison (its lhs), exchange, load and store; "6 load (second = source region ..)", "7 store (.. second = offset)"
-abbrev pub namesSecond : ℕ → Bool
-namesSecond family = eqb family 1 || (eqb family 5 || (eqb family 6 || eqb family 7))
-
-abbrev pub indexesSecond : ℕ → Bool
-indexesSecond family = eqb family 1 || (eqb family 5 || eqb family 7)
-
--- the source where it is a reference: "source form (.. 2 reference ..)"
-abbrev pub namesSource : ℕ → Bool
-namesSource form = eqb form 2
 
 -- ---- 18: all names
 

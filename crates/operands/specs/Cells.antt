@@ -1,14 +1,14 @@
 -- The operands that a row reads: cells and literals; and what it writes. 01, Machine: "A cell is kind, word."
 use Prim.Native.Nat.{ℕ, _+_, _*_}
-use mathlib.Core.Bool.{cond}
-use mathlib.Core.List.{List}
+use mathlib.Core.List.{List, [], _∷_}
 use lib.ListN.{getD}
 use lib.Dec.{eqb}
-use Rattle.words.specs.Kind.{fitsKind}
+use Rattle.words.specs.Kind.{integer, integerLiteral, realLiteral, fitsKind}
 use Rattle.tables.specs.Refusal.{noRule}
+use Rattle.tables.specs.Cases.{caseOf}
+use Rattle.tables.specs.Source as source
 use Rattle.tables.specs.Outcome.{Outcome, ok, refuse, _>>=_, _>>_, need}
 use Rattle.tables.specs.declared.rows.Instruction.{Instruction}
-use Rattle.operators.specs.Operators.{integerLiteral, realLiteral}
 use Rattle.journal.specs.declared.cells.Write.{Write}
 use Rattle.operands.specs.declared.cell.Value.{Value}
 use Rattle.operands.specs.declared.cell.Read.{Read}
@@ -29,18 +29,22 @@ cellAt cells c = record { kind = cellKind cells c; word = cellWord cells c }
 unfoldable pub readOf : List ℕ → ℕ → Outcome Value
 readOf cells c = need (fitsKind (cellKind cells c) (cellWord cells c)) noRule >> ok (cellAt cells c)
 
--- "source form (0 integer literal, 1 real literal, 2 reference ..)": c is a reference's cell
+-- "source form (0 integer literal, 1 real literal, 2 reference ..)": c is a reference's cell. A row without a source reads none.
+abbrev pub sources : List ℕ → Instruction → ℕ → List (ℕ × Outcome Value)
+sources cells x c =
+    (source.integerLiteral, ok (record { kind = integerLiteral; word = x .«source_first» }))
+    ∷ (source.realLiteral, ok (record { kind = realLiteral; word = x .«source_first» }))
+    ∷ (source.reference, readOf cells c)
+    ∷ []
+
 unfoldable pub sourceOf : List ℕ → Instruction → ℕ → Outcome Value
-sourceOf cells x c =
-    cond (eqb (x .«source_form») 0) (ok (record { kind = integerLiteral; word = x .«source_first» }))
-    (cond (eqb (x .«source_form») 1) (ok (record { kind = realLiteral; word = x .«source_first» }))
-    (readOf cells c))
+sourceOf cells x c = caseOf (x .«source_form») (sources cells x c) (refuse noRule)
 
 -- a LOAD's or STORE's offset: "offset not INTEGER is 4"
 unfoldable pub offsetOf : List ℕ → ℕ → Outcome ℕ
 offsetOf cells c = do
   v ← readOf cells c
-  need (eqb (v .kind) 1) noRule
+  need (eqb (v .kind) integer) noRule
   ok (v .word)
 
 -- what a row writes to cell c

@@ -1,16 +1,21 @@
 // Where a row's operands lie: the regions that it names, then the cells at its written indices.
 ghost use mathlib.Core.Path.{_≡_};
 ghost use mathlib.Core.Bool.{true};
-ghost use Prim.Native.Nat.{_<_, _≤_};
+ghost use Prim.Native.Nat.{_<_};
 ghost use Rattle.tables.specs.Rows.{regionRows};
-ghost use Rattle.tables.specs.Cells.{firstCell, cellCount};
-ghost use Rattle.operands.specs.Address.{indexFits, indexedOf, indexedOutcome, namesSecond, indexesSecond, foundRegion, namedOf, namesOf, namesOutcome, writtenOf, addressesOf, indicesOutcome};
-ghost use Rattle.operands.specs.Reach.{Named};
-use tables::family;
+ghost use Rattle.tables.specs.Cells.{origin};
+ghost use Rattle.operands.specs.Address.{indexFits, indexedOf, indexedOutcome, foundRegion, namedOf, namesOf, namesOutcome, writtenOf, addressesOf, indicesOutcome};
+ghost use Rattle.operands.specs.Reach.{Laid, Named};
+use crate::names::indexes_first;
+use crate::names::indexes_second;
+use crate::names::names_first;
+use crate::names::names_second;
+use tables::cells::cells_in;
 use tables::lookup::Found;
 use tables::lookup::lookup_region;
 use tables::rows::Instruction;
-use tables::rows::REGION_WIDTH;
+use tables::rows::region_at;
+use tables::source;
 use words::integer;
 
 // The regions that a row names; 0 for an operand that is no name.
@@ -43,15 +48,15 @@ pub enum Indexed {
     Past,
 }
 
-// The first cell of a region.
-pub fn region_start(regions: &[u64], r: usize) -> usize
-    requires { ⌜ (r ≤ regionRows (now regions)) × (cellCount (now regions) ≤ 4096) ⌝ }
-    ensures { λ c. ⌜ c ≡ firstCell (now (regions .entry)) r ⌝ }
+// The cell of a region's index 0: as many as the regions before it add.
+pub fn region_origin(regions: &[u64], r: usize) -> usize
+    requires { ⌜ (r < regionRows (now regions)) × Laid (now regions) ⌝ }
+    ensures { λ c. ⌜ c ≡ origin (now (regions .entry)) r ⌝ }
 {
     let mut c: usize = 0;
     let mut i = 0;
     while i < r {
-        c += regions[i * REGION_WIDTH + 2] as usize;
+        c += cells_in(regions, i);
         i += 1;
     }
     c
@@ -61,31 +66,18 @@ pub fn index_fits(regions: &[u64], r: usize, i: u64) -> bool
     requires { ⌜ r < regionRows (now regions) ⌝ }
     ensures { λ t. ⌜ t ≡ indexFits (now (regions .entry)) r i ⌝ }
 {
-    let length = regions[r * REGION_WIDTH + 2];
-    !integer::is_negative(i) & (i < length)
+    let region = region_at(regions, r);
+    !integer::is_negative(i) & (i < region.length)
 }
 
 pub fn index_cell(regions: &[u64], r: usize, i: u64) -> Indexed
-    requires { ⌜ (r < regionRows (now regions)) × (cellCount (now regions) ≤ 4096) ⌝ }
+    requires { ⌜ (r < regionRows (now regions)) × Laid (now regions) ⌝ }
     ensures { λ a. ⌜ indexedOutcome a ≡ indexedOf (now (regions .entry)) r i ⌝ }
 {
     if index_fits(regions, r, i) {
-        return Indexed::At(region_start(regions, r) + i as usize);
+        return Indexed::At(region_origin(regions, r) + i as usize);
     }
     Indexed::Past
-}
-
-fn names_second(family: u64) -> bool
-    ensures { λ t. ⌜ t ≡ namesSecond family ⌝ }
-{
-    (family == family::COMPARISON)
-        | ((family == family::EXCHANGE) | ((family == family::LOAD) | (family == family::STORE)))
-}
-
-fn indexes_second(family: u64) -> bool
-    ensures { λ t. ⌜ t ≡ indexesSecond family ⌝ }
-{
-    (family == family::COMPARISON) | ((family == family::EXCHANGE) | (family == family::STORE))
 }
 
 // The region of a name that is used.
@@ -103,13 +95,17 @@ pub fn named_regions(regions: &[u64], x: Instruction) -> Names
     ensures { λ n. ⌜ namesOutcome n ≡ namesOf (now (regions .entry)) x ⌝ }
 {
     let family = x.family;
-    let Found::At(first) = named_region(regions, family < family::FRAME, x.first_name) else {
+    let Found::At(first) = named_region(regions, names_first(family), x.first_name) else {
         return Names::Undeclared;
     };
     let Found::At(second) = named_region(regions, names_second(family), x.second_name) else {
         return Names::Undeclared;
     };
-    let Found::At(source) = named_region(regions, x.source_form == 2, x.source_first) else {
+    let Found::At(source) = named_region(
+        regions,
+        x.source_form == source::REFERENCE,
+        x.source_first,
+    ) else {
         return Names::Undeclared;
     };
     Names::Declared(NamedRegions {
@@ -121,7 +117,7 @@ pub fn named_regions(regions: &[u64], x: Instruction) -> Names
 
 // The cell of an index that is written.
 fn written_cell(regions: &[u64], written: bool, r: usize, i: u64) -> Indexed
-    requires { ⌜ (written ≡ true → r < regionRows (now regions)) × (cellCount (now regions) ≤ 4096) ⌝ }
+    requires { ⌜ (written ≡ true → r < regionRows (now regions)) × Laid (now regions) ⌝ }
     ensures { λ a. ⌜ indexedOutcome a ≡ writtenOf (now (regions .entry)) written r i ⌝ }
 {
     if written {
@@ -136,7 +132,7 @@ pub fn written_addresses(regions: &[u64], x: Instruction, n: NamedRegions) -> In
     ensures { λ a. ⌜ indicesOutcome a ≡ addressesOf (now (regions .entry)) x n ⌝ }
 {
     let family = x.family;
-    let Indexed::At(first) = written_cell(regions, family < family::STORE, n.first, x.first_index)
+    let Indexed::At(first) = written_cell(regions, indexes_first(family), n.first, x.first_index)
     else {
         return Indices::Past;
     };
@@ -148,8 +144,12 @@ pub fn written_addresses(regions: &[u64], x: Instruction, n: NamedRegions) -> In
     ) else {
         return Indices::Past;
     };
-    let Indexed::At(source) = written_cell(regions, x.source_form == 2, n.source, x.source_second)
-    else {
+    let Indexed::At(source) = written_cell(
+        regions,
+        x.source_form == source::REFERENCE,
+        n.source,
+        x.source_second,
+    ) else {
         return Indices::Past;
     };
     Indices::Within(Addresses {

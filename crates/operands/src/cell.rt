@@ -2,9 +2,9 @@
 ghost use mathlib.Core.Path.{_≡_};
 ghost use Rattle.operands.specs.Cells.{readOf, sourceOf, readOutcome, offsetOf, offsetOutcome};
 ghost use Rattle.operands.specs.Reach.{There, SourceThere};
-use operators::INTEGER_LITERAL;
-use operators::REAL_LITERAL;
+use journal::cells::CELL_WIDTH;
 use tables::rows::Instruction;
+use tables::source;
 use words::kind;
 
 // A cell's kind and word, or a literal's word with its code for the kind.
@@ -28,8 +28,9 @@ pub fn read_cell(cells: &[u64], c: usize) -> Read
     requires { ⌜ There (now cells) c ⌝ }
     ensures { λ r. ⌜ readOutcome r ≡ readOf (now (cells .entry)) c ⌝ }
 {
-    let kind = cells[2 * c];
-    let word = cells[2 * c + 1];
+    let at = CELL_WIDTH * c;
+    let kind = cells[at];
+    let word = cells[at + 1];
     if kind::fits(kind, word) {
         return Read::Holds(Value { kind, word });
     }
@@ -43,19 +44,18 @@ pub fn read_source(cells: &[u64], x: Instruction, c: usize) -> Read
 {
     let form = x.source_form;
     let word = x.source_first;
-    if form == 0 {
-        return Read::Holds(Value {
-            kind: INTEGER_LITERAL,
+    match form {
+        source::INTEGER_LITERAL => Read::Holds(Value {
+            kind: kind::INTEGER_LITERAL,
             word,
-        });
-    }
-    if form == 1 {
-        return Read::Holds(Value {
-            kind: REAL_LITERAL,
+        }),
+        source::REAL_LITERAL => Read::Holds(Value {
+            kind: kind::REAL_LITERAL,
             word,
-        });
+        }),
+        source::REFERENCE => read_cell(cells, c),
+        _ => Read::NoRule,
     }
-    read_cell(cells, c)
 }
 
 // The offset of a LOAD or a STORE: an INTEGER.

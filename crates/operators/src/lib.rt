@@ -1,6 +1,7 @@
-// Which operand kinds have a rule, and the result of each operator.
+// Which operand kinds have a rule, and the result of each operator. The loader lets no other operator pass: the rest arms are never reached.
 ghost use mathlib.Core.Path.{_≡_};
-ghost use Rattle.operators.specs.Operators.{ownKind, arithmeticKinds, quotientOutcome, integerResult, realResult, arithmeticResult, comparisonKinds, integerTest, realTest, comparisonTest, comparisonResult, logicKinds, shiftedOutcome, logicResult, unaryKinds, unaryResult};
+ghost use Rattle.operators.specs.Operators.{ownKind, arithmeticKinds, quotientOutcome, integerResult, realResult, arithmeticResult, comparisonKinds, integerTest, realTest, comparisonTest, comparisonResult, logicKinds, shiftedOutcome, logicResult, unaryKinds, negated, unaryResult};
+use tables::operator;
 use words::integer;
 use words::integer::Quotient;
 use words::kind;
@@ -8,18 +9,13 @@ use words::real;
 use words::width;
 use words::width::Shifted;
 
-// Codes of literals, beside the kinds.
-pub const INTEGER_LITERAL: u64 = 4;
-
-pub const REAL_LITERAL: u64 = 5;
-
 // A literal counts as its own kind.
 fn own_kind(s: u64) -> u64
     ensures { λ r. ⌜ r ≡ ownKind s ⌝ }
 {
     match s {
-        INTEGER_LITERAL => kind::INTEGER,
-        REAL_LITERAL => kind::REAL,
+        kind::INTEGER_LITERAL => kind::INTEGER,
+        kind::REAL_LITERAL => kind::REAL,
         _ => s,
     }
 }
@@ -30,15 +26,15 @@ pub fn arithmetic_kinds(d: u64, s: u64) -> bool
     ((d == kind::INTEGER) | (d == kind::REAL)) & (d == own_kind(s))
 }
 
-// ADD, SUB, DIV, MUL.
 fn integer_result(operator: u64, a: u64, b: u64) -> Quotient
     ensures { λ r. ⌜ quotientOutcome r ≡ integerResult operator a b ⌝ }
 {
     match operator {
-        0 => Quotient::Word(integer::add(a, b)),
-        1 => Quotient::Word(integer::subtract(a, b)),
-        2 => integer::divide(a, b),
-        _ => Quotient::Word(integer::multiply(a, b)),
+        operator::ADD => Quotient::Word(integer::add(a, b)),
+        operator::SUBTRACT => Quotient::Word(integer::subtract(a, b)),
+        operator::DIVIDE => integer::divide(a, b),
+        operator::MULTIPLY => Quotient::Word(integer::multiply(a, b)),
+        _ => Quotient::Word(0),
     }
 }
 
@@ -46,10 +42,11 @@ fn real_result(operator: u64, a: u64, b: u64) -> u64
     ensures { λ r. ⌜ r ≡ realResult operator a b ⌝ }
 {
     match operator {
-        0 => real::add(a, b),
-        1 => real::subtract(a, b),
-        2 => real::divide(a, b),
-        _ => real::multiply(a, b),
+        operator::ADD => real::add(a, b),
+        operator::SUBTRACT => real::subtract(a, b),
+        operator::DIVIDE => real::divide(a, b),
+        operator::MULTIPLY => real::multiply(a, b),
+        _ => 0,
     }
 }
 
@@ -66,22 +63,22 @@ pub fn comparison_kinds(l: u64, s: u64) -> bool
     ensures { λ r. ⌜ r ≡ comparisonKinds l s ⌝ }
 {
     match s {
-        INTEGER_LITERAL => l < kind::REAL,
-        REAL_LITERAL => l == kind::REAL,
+        kind::INTEGER_LITERAL => l < kind::REAL,
+        kind::REAL_LITERAL => l == kind::REAL,
         _ => l == s,
     }
 }
 
-// EQ, GE, GT, LE, LT.
 fn integer_test(operator: u64, a: u64, b: u64) -> bool
     ensures { λ r. ⌜ r ≡ integerTest operator a b ⌝ }
 {
     match operator {
-        0 => integer::equal(a, b),
-        1 => integer::greater_than_or_equal(a, b),
-        2 => integer::greater_than(a, b),
-        3 => integer::less_than_or_equal(a, b),
-        _ => integer::less_than(a, b),
+        operator::EQUAL => integer::equal(a, b),
+        operator::GREATER_THAN_OR_EQUAL => integer::greater_than_or_equal(a, b),
+        operator::GREATER_THAN => integer::greater_than(a, b),
+        operator::LESS_THAN_OR_EQUAL => integer::less_than_or_equal(a, b),
+        operator::LESS_THAN => integer::less_than(a, b),
+        _ => false,
     }
 }
 
@@ -89,11 +86,12 @@ fn real_test(operator: u64, a: u64, b: u64) -> bool
     ensures { λ r. ⌜ r ≡ realTest operator a b ⌝ }
 {
     match operator {
-        0 => real::equal(a, b),
-        1 => real::greater_than_or_equal(a, b),
-        2 => real::greater_than(a, b),
-        3 => real::less_than_or_equal(a, b),
-        _ => real::less_than(a, b),
+        operator::EQUAL => real::equal(a, b),
+        operator::GREATER_THAN_OR_EQUAL => real::greater_than_or_equal(a, b),
+        operator::GREATER_THAN => real::greater_than(a, b),
+        operator::LESS_THAN_OR_EQUAL => real::less_than_or_equal(a, b),
+        operator::LESS_THAN => real::less_than(a, b),
+        _ => false,
     }
 }
 
@@ -118,41 +116,48 @@ pub fn comparison_result(operator: u64, kind: u64, a: u64, b: u64) -> u64
 pub fn logic_kinds(d: u64, s: u64) -> bool
     ensures { λ r. ⌜ r ≡ logicKinds d s ⌝ }
 {
-    (d < kind::REAL) & ((s < kind::REAL) | (s == INTEGER_LITERAL))
+    (d < kind::REAL) & ((s < kind::REAL) | (s == kind::INTEGER_LITERAL))
 }
 
-// AND, IOR, XOR, SHL, SHR, ASHR.
 pub fn logic_result(operator: u64, kind: u64, v: u64, s: u64) -> Shifted
     ensures { λ r. ⌜ shiftedOutcome r ≡ logicResult operator kind v s ⌝ }
 {
     match operator {
-        0 => Shifted::Word(width::and(kind, v, s)),
-        1 => Shifted::Word(width::ior(kind, v, s)),
-        2 => Shifted::Word(width::xor(kind, v, s)),
-        3 => width::shl(kind, v, s),
-        4 => width::shr(kind, v, s),
-        _ => width::ashr(kind, v, s),
+        operator::AND => Shifted::Word(width::and(kind, v, s)),
+        operator::IOR => Shifted::Word(width::ior(kind, v, s)),
+        operator::XOR => Shifted::Word(width::xor(kind, v, s)),
+        operator::SHL => width::shl(kind, v, s),
+        operator::SHR => width::shr(kind, v, s),
+        operator::ASHR => width::ashr(kind, v, s),
+        _ => Shifted::Word(0),
     }
 }
 
-// NEG, NOT.
 pub fn unary_kinds(operator: u64, kind: u64) -> bool
     ensures { λ r. ⌜ r ≡ unaryKinds operator kind ⌝ }
 {
-    if operator == 0 {
-        return (kind == kind::INTEGER) | (kind == kind::REAL);
+    match operator {
+        operator::NEG => (kind == kind::INTEGER) | (kind == kind::REAL),
+        operator::NOT => kind < kind::REAL,
+        _ => false,
     }
-    kind < kind::REAL
+}
+
+fn negate(kind: u64, v: u64) -> u64
+    ensures { λ r. ⌜ r ≡ negated kind v ⌝ }
+{
+    if kind == kind::REAL {
+        return real::negate(v);
+    }
+    integer::negate(v)
 }
 
 pub fn unary_result(operator: u64, kind: u64, v: u64) -> u64
     ensures { λ r. ⌜ r ≡ unaryResult operator kind v ⌝ }
 {
-    if operator == 0 {
-        if kind == kind::REAL {
-            return real::negate(v);
-        }
-        return integer::negate(v);
+    match operator {
+        operator::NEG => negate(kind, v),
+        operator::NOT => width::not(kind, v),
+        _ => 0,
     }
-    width::not(kind, v)
 }

@@ -23,7 +23,8 @@ use Rattle.journal.proofs.RestoreLaws.{present-log}
 use Rattle.machine.specs.Outcome.{outcomeAt}
 use Rattle.session.specs.Prepare.{entriesOf, preparedOf}
 use Rattle.session.specs.Position.{positionFits}
-use Rattle.soundness.specs.Sound.{Fits, Typed, GoodWrite, Sound}
+use Rattle.operands.specs.Typed.{Fits, Typed}
+use Rattle.soundness.specs.Sound.{GoodWrite, Sound}
 use Rattle.sequence.specs.Calls.{Session}
 use Rattle.sequence.specs.Replay.{Machine, History, State, made, rowAfter, cellsAfter, writesAfter, usedAfter, cellsAt, usedAt, positionAt, looksFirst}
 use Rattle.sequence.specs.Journal.{stacked, usedBy, stepsAfter, journalAfter, journalAt}

@@ -16,7 +16,8 @@ use Rattle.journal.specs.Position.{firstPosition}
 use Rattle.session.specs.Leaves.{leaves}
 use Rattle.session_forward.specs.Forward.{Left}
 use Rattle.session_back.specs.Back.{Back}
-use Rattle.soundness.specs.Sound.{Typed, Sound}
+use Rattle.operands.specs.Typed.{Typed}
+use Rattle.soundness.specs.Sound.{Sound}
 use Rattle.sequence.specs.Calls.{Call, forward, back, Answer, stepped, positionOf, Session, opened, Called, called, after, next, answers, end}
 use Rattle.sequence.specs.Replay.{Machine, machineOf, History, State, fresh, cellsAfter, writesAfter, usedAfter, cellsAt, usedAt, positionAt, replayed, stepAnswer, nextState, replayAnswer, replayNext, replayAnswers, replayEnd}
 use Rattle.sequence.specs.Journal.{stacked, stepsAfter, journalAfter, journalAt, usedEntries}

@@ -10,5 +10,5 @@ use Rattle.sequence.proofs.Sequence.{faithful}
 pub demand-3 : Demand3
 demand-3 t memory journal words e calls =
     let a = accepts t memory (length journal) e in
-    let checked : Checked t = record { loads = a .facts .loads; passes = a .checked; words = words } in
+    let checked : Checked t = record { loads = a .facts .loads; passes = a .checked; laid = record { few = a .facts .few }; words = words } in
     faithful t (sound t checked) memory journal a calls

@@ -14,6 +14,7 @@ use Rattle.tables.specs.Family as family
 use Rattle.tables.specs.Operator as operator
 use Rattle.tables.specs.Source as source
 use Rattle.tables.specs.NodeTag as tag
+use Rattle.tables.specs.Names.{operandsOf, namesFirst, namesSecond, indexesFirst, indexesSecond}
 use Rattle.tables.specs.Outcome.{_>>=_, _>>_, need}
 use Rattle.tables.specs.First.{first, every}
 use Rattle.tables.specs.Tables.{Tables, tablesOf}
@@ -113,7 +114,7 @@ unfolding fitsKind widthOf lowBits signed wordOf integerIsNegative integerDivide
     checkOf verdictOf judgementOf rowRule ruleOf sourceCode operandCode codeOf kindCode arithmeticRule sourceRule logicRule logicSource moveRule
     exchangeRule loadRule loadOffset storeRule storeSource frameRule treeVerdict nodeVerdict numberVerdict
     put applied flatten olds log closing entered journaled entriesAt restored undone present
-    zeros zerosFrom declaredKind regionOf regionAmong outcomeAt outcomeOf plainOutcome namesOf namedOf addressesOf writtenOf indexedOf indexFits addressOf
+    operandsOf namesFirst namesSecond indexesFirst indexesSecond zeros zerosFrom declaredKind regionOf regionAmong outcomeAt outcomeOf plainOutcome namesOf namedOf addressesOf writtenOf indexedOf indexFits addressOf
     readOf sourceOf offsetOf families.familyOf families.putInto families.arithmeticOf families.logicOf families.moveOf families.exchangeOf
     families.loadOf arithmeticResult integerResult logicResult
     openTables openCells openVerdict programVerdict preparedOf tablesLook buffersFit programLook noOther callsLook callLook withTail

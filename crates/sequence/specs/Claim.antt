@@ -14,11 +14,11 @@ use Rattle.access_sets.specs.Set.{has}
 use Rattle.journal.specs.Position.{rowOf, firstPosition}
 use Rattle.journal.specs.Cells.{cellWidth, held}
 use Rattle.journal.specs.Each.{Each}
+use Rattle.operands.specs.Typed.{Typed}
 use Rattle.machine.specs.Outcome.{isCall}
 use Rattle.session.specs.declared.answer.OpenAnswer.the-variants.{Opened}
 use Rattle.session_open.specs.Open.{openTables}
 use Rattle.soundness.specs.WriteSet.{HasCell, writeSet}
-use Rattle.soundness.specs.Sound.{Typed}
 use Rattle.sequence.specs.Calls.{Call, forward, back, Answer, numberOf, Session, opened, next, answers, end}
 use Rattle.sequence.specs.Replay.{Machine, machineOf, State, fresh, cellsAt, replayAnswers, replayEnd}
 use Rattle.sequence.specs.Journal.{journalAt, usedEntries}

@@ -61,7 +61,7 @@ prepared t memory journal {n} e =
 pub ready : (t : Tables) (m : List ℕ) (journal : ℕ) {n : ℕ} → Facts t (length m) journal n → Ready t (take (cellWidth * n) m) journal
 ready t m journal {n} f = record {
   loads = f .loads;
-  layout = record { few = rw (← f .count) (f .few); wide = length-take-le (cellWidth * n) m (f .room) ∙ ap (λ (k : ℕ). cellWidth * k) (f .count) };
+  layout = record { laid = record { few = rw (← f .count) (f .few) }; wide = length-take-le (cellWidth * n) m (f .room) ∙ ap (λ (k : ℕ). cellWidth * k) (f .count) };
   whole = f .whole;
   short = f .short;
 }

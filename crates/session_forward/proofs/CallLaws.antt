@@ -20,7 +20,7 @@ use Rattle.extern_call.specs.declared.resolved.ResolvedCallArgument.the-variant
 use Rattle.extern_call.proofs.ResolvedLaws.{resolved-facts}
 use Rattle.journal.specs.declared.cells.Write.{Write}
 use Rattle.call_reply.specs.Call.{replyRows, replyAt, replyLengthFits, hits, cellHit, ofResolved, replyRowFits, replyFits, replyWrite, replyWritesFrom, replyWrites, callJudged}
-use Rattle.operands.specs.Reach.{There, Layout}
+use Rattle.operands.specs.Reach.{There, Laid, Layout}
 use Rattle.call_reply.specs.Reach.{HitWithin, Replied}
 use Rattle.call_reply.specs.declared.reply.Reply.{Reply}
 use Rattle.operands.proofs.AddressLaws.{address-within}
@@ -30,23 +30,23 @@ use Rattle.session_forward.specs.Step.{Replying}
 
 module _ (regions parameters arguments : List ℕ) (call : ExternCall) where
   -- ---- the cell that a row hits
-  cell-below : (i : ℕ) (y : Reply) (r : CallResolution) → resolutionAt regions parameters arguments call i ≡ r
+  cell-below : Laid regions → (i : ℕ) (y : Reply) (r : CallResolution) → resolutionAt regions parameters arguments call i ≡ r
       → HitWithin regions (y .offset) r → ofResolved (hits y) false r ≡ true → ofResolved (cellHit regions (y .offset)) 0 r < cellCount regions
-  cell-below i y (C.Resolved (Vector name v mutable)) e h f =
+  cell-below laid i y (C.Resolved (Vector name v mutable)) e h f =
       let d = resolved-facts regions parameters arguments call i (Vector name v mutable) e .declares in
-      rw (d .named) (address-within regions (d .region) (y .offset) (region-row regions name (d .region) (d .named)) (rw (d .named) at h))
-  cell-below i y (C.Resolved (MemoryReference name index kind mutable)) e h f =
+      rw (d .named) (address-within laid (d .region) (y .offset) (region-row regions name (d .region) (d .named)) (rw (d .named) at h))
+  cell-below laid i y (C.Resolved (MemoryReference name index kind mutable)) e h f =
       let d = resolved-facts regions parameters arguments call i (MemoryReference name index kind mutable) e .declares in
-      rw (d .named) (address-within regions (d .region) index (region-row regions name (d .region) (d .named)) (rw (d .named) at h))
-  cell-below i y (C.Resolved (Immediate real imaginary kind)) e h f = let z : _≡_ {A = ℕ} 0 1 = cc in absurd (omega arith)
-  cell-below i y (C.Failed error) e h f = let z : _≡_ {A = ℕ} 0 1 = cc in absurd (omega arith)
+      rw (d .named) (address-within laid (d .region) index (region-row regions name (d .region) (d .named)) (rw (d .named) at h))
+  cell-below laid i y (C.Resolved (Immediate real imaginary kind)) e h f = let z : _≡_ {A = ℕ} 0 1 = cc in absurd (omega arith)
+  cell-below laid i y (C.Failed error) e h f = let z : _≡_ {A = ℕ} 0 1 = cc in absurd (omega arith)
 
   pub replied-there : {cells : List ℕ} (reply : List ℕ) (k : ℕ) → Layout regions cells → Replied regions parameters arguments call reply k
       → There cells (replyWrite regions parameters arguments call reply k .cell)
   unfolding replyWrite replyRowFits
   replied-there reply k l r =
       let y = replyAt reply k in
-      in-cells l (cell-below (y .argument) y (resolutionAt regions parameters arguments call (y .argument)) refl
+      in-cells l (cell-below (l .laid) (y .argument) y (resolutionAt regions parameters arguments call (y .argument)) refl
       (replied-hit regions parameters arguments call reply k r .cell)
       (both (ltb (y .argument) (call .«argument_count»)) _ (r .fits) .1))
 
@@ -75,6 +75,6 @@ judged-replying {regions} {externs} {parameters} {arguments} {x} {cells} {reply}
     let j = judged-ok regions externs parameters arguments x call reply e in
     record {
       layout = l;
-      row = judged-replied (l .few) ranges j;
+      row = judged-replied (l .laid) ranges j;
       few = leb-true (replyRows reply) 64 (both (eqb (length reply % 4) 0) _ (both (replyLengthFits reply) _ (j .fits) .0) .1);
     }

@@ -12,7 +12,7 @@ use Rattle.journal.specs.Cells.{cellWidth, held, put}
 use Rattle.journal.specs.declared.cells.Write.{Write}
 use Rattle.journal.proofs.CellsLaws.{held-same, held-other}
 use Rattle.operands.specs.Kinds.{declaredKind, zeros}
-use Rattle.operands.proofs.KindsLaws.{kind-at, length-zeros, zeros-at}
+use Rattle.operands.proofs.KindsLaws.{kind-own, length-zeros, zeros-at}
 use Rattle.session_open.specs.Zero.{zeroCell, Zeroed, ZeroedTo}
 
 module _ (regions : List ℕ) where
@@ -29,7 +29,7 @@ module _ (regions : List ℕ) where
       at : Dec (k ≡ c) → held (put cells (record { cell = c; kind = kind; word = 0 })) k ≡ zeroCell regions k
       at (yes q) =
           let s : firstCell regions r + (c - firstCell regions r) ≡ c = omega arith in
-          let d : declaredKind regions c ≡ regionKind regions r = rw s at (kind-at regions r (c - firstCell regions r) h (omega arith)) in
+          let d : declaredKind regions c ≡ regionKind regions r = rw s at (kind-own regions r (c - firstCell regions r) h (omega arith)) in
           rw q (held-same cells (record { cell = c; kind = kind; word = 0 }) b
           ∙ ap (λ (y : ℕ). record { cell = c; kind = y; word = 0 }) (e ∙ sym d))
       at (no ne) = held-other cells (record { cell = c; kind = kind; word = 0 }) k ne ∙ z k (omega arith)

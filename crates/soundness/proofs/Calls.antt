@@ -38,7 +38,7 @@ use Rattle.operands.proofs.AddressLaws.{index-below}
 use Rattle.call_reply.proofs.ReplyLaws.{Judged, judged-ok, scalar-below, replied-argument}
 use Rattle.soundness.specs.WriteSet.{writeSet}
 use Rattle.soundness.specs.Sound.{GoodWrite}
-use Rattle.soundness.proofs.Regions.{KindsAllowed, Region, cell-of}
+use Rattle.soundness.proofs.Regions.{RegionsFit, Region, cell-of}
 use Rattle.soundness.proofs.Values.{Kept, kept}
 
 -- ---- the cell that a row of the reply hits
@@ -70,7 +70,7 @@ record Aimed (regions : List ℕ) (name kind i : ℕ) : Type 0 where
   ofKind : regionKind regions region ≡ kind
   index : i < regionLength regions region
 
-module _ (t : Tables) (x : Instruction) (kinds : KindsAllowed (t .regions)) where
+module _ (t : Tables) (x : Instruction) (fit : RegionsFit (t .regions)) where
   -- a write there, of a name in the write set
   aimed-good : {name kind i : ℕ} (y : Reply) → Aimed (t .regions) name kind i → y .kind ≡ kind → fitsKind (y .kind) (y .word) ≡ true
       → has name (writeSet t x) ≡ true → GoodWrite t x (write (M.cellFound (t .regions) i (lookupRegion (t .regions) name)) (y .kind) (y .word))
@@ -78,8 +78,8 @@ module _ (t : Tables) (x : Instruction) (kinds : KindsAllowed (t .regions)) wher
   aimed-good {name} {kind} {i} y a k f h =
       let r = a .region in
       let l = region-row (t .regions) name r (a .named) in
-      let b : regionKind (t .regions) r ≤ 3 = kinds r l in
-      let g : Region (t .regions) kind r = record { there = l; is = a .ofKind; small = omega (arith, a .ofKind) } in
+      let b : regionKind (t .regions) r ≤ 3 = fit .kind r l in
+      let g : Region (t .regions) kind r = record { laid = fit .laid; there = l; is = a .ofKind; small = omega (arith, a .ofKind) } in
       let w : Kept (t .regions) (write (addressOf (t .regions) r i) (y .kind) (y .word)) = kept (cell-of g i (a .index)) k (rw k at f) in
       rw (a .named) (record {
         there = w .there;

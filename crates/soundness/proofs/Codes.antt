@@ -1,5 +1,5 @@
 -- What the typing rules say of the kinds that the machine meets: one computed test for each family over all codes, lifted to every code. Assumes nothing.
-use Prim.Native.Nat.{ℕ}
+use Prim.Native.Nat.{ℕ, zero, suc, _<_}
 use mathlib.Core.Bool.{Bool, true, false, not, _||_, _&&_}
 use mathlib.Core.Path.{_≡_, refl, ap}
 use mathlib.Core.List.{List, [], _∷_}
@@ -7,6 +7,7 @@ use mathlib.Core.Logic.{inl, inr, ⊎-elim}
 use native.Mathlib.Omega.{arith}
 use lib.Dec.{eqb, ltb}
 use Rattle.words.specs.Kind.{widthOf}
+use Rattle.tables.specs.Cases.{caseOf}
 use Rattle.tables.specs.First.{first, every}
 use Rattle.loader.proofs.Loaded.{both}
 use Rattle.type_check.specs.Judgement.{Judgement, pass, passes}
@@ -80,13 +81,15 @@ pub logic-wants : (d s : ℕ) → Code 4 d → Code 6 s → T.logicRule d s ≡ 
 unfolding first every T.logicRule T.logicSource
 logic-wants = given₂ T.logicRule logicWants refl
 
--- NEG is of the kinds of 64 bits. An operator is taken for a code.
+-- NEG is of the kinds of 64 bits
 abbrev pub unaryWants : ℕ → ℕ → List Bool
 unaryWants operator d = declared d ∷ unaryKinds operator d ∷ (not (eqb operator 0) || eqb (widthOf d) 64) ∷ []
 
-pub unary-wants : (d operator : ℕ) → Code 4 d → Code 6 operator → T.unaryRule operator d ≡ pass → Trues (unaryWants operator d)
-unfolding first every widthOf T.unaryRule
-unary-wants = given₂ (λ d operator. T.unaryRule operator d) (λ d operator. unaryWants operator d) refl
+pub unary-wants : (d operator : ℕ) → Code 4 d → operator < 2 → T.unaryRule operator d ≡ pass → Trues (unaryWants operator d)
+unfolding first every widthOf caseOf unaryKinds T.unaryRule
+unary-wants d zero c l = given₁ 4 (T.unaryRule 0) (unaryWants 0) refl d c
+unary-wants d (suc zero) c l = given₁ 4 (T.unaryRule 1) (unaryWants 1) refl d c
+unary-wants d (suc (suc n)) c l = absurd (omega arith)
 
 -- a source that is put into a cell fits as one that is compared
 abbrev pub moveWants : ℕ → ℕ → List Bool

@@ -11,8 +11,9 @@ use Rattle.tables.specs.Tables.{Tables}
 use Rattle.tables.specs.declared.rows.Instruction.{Instruction}
 use Rattle.loader.proofs.Loaded.{both, passed}
 use Rattle.journal.specs.declared.cells.Write.{Write}
-use Rattle.call_reply.specs.Call.{replyRows, replyLengthFits, replyFits, replyWrites, callJudged, callOutcome}
+use Rattle.call_reply.specs.Call.{replyWidth, replyLimit, replyRows, replyLengthFits, replyFits, replyWrites, callJudged, callOutcome}
 use Rattle.machine.specs.Outcome.{isCall, isOther, plainOutcome, outcomeOf}
+use Rattle.operands.specs.Reach.{Laid}
 use Rattle.operands.proofs.Binds.{bound}
 use Rattle.call_reply.proofs.ReplyLaws.{judged-ok, reply-writes-length}
 use Rattle.machine.proofs.WritesLaws.{changesOf, writes-count}
@@ -23,7 +24,7 @@ changesIn x reply = cond (isCall x) (replyRows reply) (changesOf (x .family))
 
 module _ (t : Tables) (x : Instruction) (reply : List ℕ) {ws : List Write} where
   -- "a reply is up to 64 rows"
-  pub call-count : callOutcome (t .regions) (t .externs) (t .parameters) (t .arguments) x reply ≡ ok ws → (length ws ≡ replyRows reply) × (replyRows reply ≤ 64)
+  pub call-count : callOutcome (t .regions) (t .externs) (t .parameters) (t .arguments) x reply ≡ ok ws → (length ws ≡ replyRows reply) × (replyRows reply ≤ replyLimit)
   unfolding callOutcome replyFits replyLengthFits
   call-count e =
       let b = bound (callJudged (t .regions) (t .externs) (t .parameters) (t .arguments) x reply) _ ws e in
@@ -31,14 +32,14 @@ module _ (t : Tables) (x : Instruction) (reply : List ℕ) {ws : List Write} whe
       let j = judged-ok (t .regions) (t .externs) (t .parameters) (t .arguments) x (b .value) reply (b .given) in
       let f = both (replyLengthFits reply) _ (j .fits) .0 in (
         ap length (sym q) ∙ reply-writes-length (t .regions) (t .parameters) (t .arguments) (b .value) reply,
-        leb-true (replyRows reply) 64 (both (eqb (length reply % 4) 0) _ f .1),
+        leb-true (replyRows reply) replyLimit (both (eqb (length reply % replyWidth) 0) _ f .1),
       )
 
-  pub outcome-count : (cells : List ℕ) → outcomeOf t cells x reply ≡ ok ws → length ws ≡ changesIn x reply
+  pub outcome-count : Laid (t .regions) → (cells : List ℕ) → outcomeOf t cells x reply ≡ ok ws → length ws ≡ changesIn x reply
   unfolding outcomeOf
-  outcome-count cells e = at (isCall x) (passed (not (isOther x)) _ _ _ e .1)
+  outcome-count laid cells e = at (isCall x) (passed (not (isOther x)) _ _ _ e .1)
     where
       at : (c : Bool) → cond c (callOutcome (t .regions) (t .externs) (t .parameters) (t .arguments) x reply) (plainOutcome (t .regions) cells x reply) ≡ ok ws
           → length ws ≡ cond c (replyRows reply) (changesOf (x .family))
       at true e = call-count e .0
-      at false e = writes-count (t .regions) cells x reply e
+      at false e = writes-count laid cells x reply e

@@ -14,7 +14,7 @@ use Rattle.operands.specs.declared.address.NamedRegions.{NamedRegions}
 use Rattle.operands.specs.declared.address.Addresses.{Addresses}
 use Rattle.machine.proofs.Ends.{Ends, Ruled, fine, bind, ruled}
 use Rattle.machine.proofs.WritesLaws.{single}
-use Rattle.soundness.specs.Sound.{Typed}
+use Rattle.operands.specs.Typed.{Typed}
 use Rattle.soundness.proofs.Regions.{Region, Cell, indexed-ends}
 use Rattle.soundness.proofs.Results.{arithmetic-ends, comparison-below, logic-ends, unary-below}
 use Rattle.soundness.proofs.Values.{Holds, Keeps, kept, kept-below, read-ends, put-ends, offset-ends}

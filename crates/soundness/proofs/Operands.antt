@@ -3,18 +3,20 @@
 use Prim.Native.Nat.{ℕ, _<_, _≤_}
 use mathlib.Core.Bool.{Bool, true, false, _||_}
 use mathlib.Core.List.{List}
-use mathlib.Core.Path.{_≡_, refl}
+use mathlib.Core.Path.{_≡_, refl, ap}
 use native.Mathlib.Omega.{arith}
 use lib.Dec.{eqb}
-use borrow.Author.Tests.{eqb-true, ne-eqb, le-ltb}
+use borrow.Author.Tests.{eqb-true}
 use Rattle.tables.specs.declared.rows.Instruction.{Instruction}
 use Rattle.type_check.specs.Codes.{firstCode, secondCode, referenceCode}
-use Rattle.operands.specs.Address.{namesFirst, indexesFirst, namesSecond, indexesSecond, namesSource, namesOf, addressesOf}
+use Rattle.tables.specs.Names.{unused, Operands, operands, operandsByFamily, operandsOf, isName, namesFirst, indexesFirst, namesSecond, indexesSecond, namesSource}
+use Rattle.operands.specs.Address.{namesOf, addressesOf}
 use Rattle.operands.specs.declared.address.NamedRegions.{NamedRegions}
 use Rattle.operands.specs.declared.address.Addresses.{Addresses}
 use Rattle.operands.proofs.Reaches.{first-named, second-named}
+use Rattle.machine.proofs.Past.{past-keys}
 use Rattle.machine.proofs.Ends.{Ends, Ruled, fine, bind}
-use Rattle.soundness.proofs.Regions.{KindsAllowed, Region, Cell, named-ends, written-ends}
+use Rattle.soundness.proofs.Regions.{RegionsFit, Region, Cell, named-ends, written-ends}
 
 -- the names that a row of family f uses are declared
 pub record Declared (regions : List ℕ) (x : Instruction) (f : ℕ) : Type 0 where
@@ -38,13 +40,13 @@ pub record Placed (regions : List ℕ) (x : Instruction) (f : ℕ) (n : NamedReg
 -- ---- names and indices
 
 module _ {regions : List ℕ} (x : Instruction) where
-  pub names-ends : KindsAllowed regions → Declared regions x (x .family) → Ends Ruled (Named regions x (x .family)) (namesOf regions x)
+  pub names-ends : RegionsFit regions → Declared regions x (x .family) → Ends Ruled (Named regions x (x .family)) (namesOf regions x)
   unfolding namesOf
-  names-ends kinds d =
+  names-ends fit d =
       let f = x .family in
-      bind (named-ends kinds (x .«first_name») (namesFirst f) (d .first)) (λ a ha.
-      bind (named-ends kinds (x .«second_name») (namesSecond f) (d .second)) (λ b hb.
-      bind (named-ends kinds (x .«source_first») (namesSource (x .«source_form»)) (d .source)) (λ c hc.
+      bind (named-ends fit (x .«first_name») (namesFirst f) (d .first)) (λ a ha.
+      bind (named-ends fit (x .«second_name») (namesSecond f) (d .second)) (λ b hb.
+      bind (named-ends fit (x .«source_first») (namesSource (x .«source_form»)) (d .source)) (λ c hc.
       fine (record { first = ha; second = hb; source = hc }))))
 
   pub addresses-ends : (n : NamedRegions) → Named regions x (x .family) n → Ends Ruled (Placed regions x (x .family) n) (addressesOf regions x n)
@@ -52,7 +54,7 @@ module _ {regions : List ℕ} (x : Instruction) where
   addresses-ends n h =
       let f = x .family in
       bind (written-ends (indexesFirst f) (x .«first_index») (λ e. h .first (first-named f e)) (omega arith)) (λ i hi.
-      bind (written-ends (indexesSecond f) (x .«second_index») (λ e. h .second (second-named (eqb f 1) (eqb f 5) (eqb f 6) (eqb f 7) e)) (omega arith)) (λ j hj.
+      bind (written-ends (indexesSecond f) (x .«second_index») (λ e. h .second (second-named f e)) (omega arith)) (λ j hj.
       bind (written-ends (namesSource (x .«source_form»)) (x .«source_second») (h .source) (omega arith)) (λ k hk.
       fine (record { named = h; first = hi; second = hj; source = hk }))))
 
@@ -72,4 +74,7 @@ no-source form e h = absurd (omega (arith, eqb-true form 3 e, eqb-true form 2 h)
 
 -- families 8 to 10 look nothing up
 pub past : (f : ℕ) → 8 ≤ f → (namesFirst f ≡ false) × (namesSecond f ≡ false)
-past f h = (le-ltb f 8 h, rw (ne-eqb f 1 (omega arith), ne-eqb f 5 (omega arith), ne-eqb f 6 (omega arith), ne-eqb f 7 (omega arith)))
+unfolding namesFirst namesSecond operandsOf
+past f h =
+    let e = past-keys 8 f operandsByFamily (operands unused unused) refl h in
+    (ap (λ (o : Operands). isName (o .first)) e, ap (λ (o : Operands). isName (o .second)) e)

@@ -1,9 +1,9 @@
--- Where regions and cells lie: the cell at an index of a region lies in that region and has its kind; a declared name has a region of the kind
+-- Where regions and cells lie: the cell at an index of a region has its kind; a declared name has a region of the kind
 -- that is the name's code. Assumes nothing.
 use Prim.Native.Nat.{ℕ, zero, suc, _+_, _<_, _≤_}
 use mathlib.Core.Bool.{Bool, true, false, cond, false≢true}
 use mathlib.Core.List.{List}
-use mathlib.Core.Path.{_≡_, refl, sym, ap, _∙_}
+use mathlib.Core.Path.{_≡_, refl, sym, _∙_}
 use native.Mathlib.Omega.{arith}
 use lib.Dec.{ltb}
 use Rattle.tables.specs.Refusal.{indexPastLength}
@@ -16,19 +16,15 @@ use Rattle.tables.proofs.LookupLaws.{region-row}
 use Rattle.type_check.specs.Codes.{codeOf}
 use Rattle.type_check.proofs.CodeLaws.{code-kind, code-none}
 use Rattle.operands.specs.Kinds.{regionAmong, regionOf, declaredKind}
+use Rattle.operands.specs.Reach.{Laid}
 use Rattle.operands.specs.Address.{addressOf, indexFits, indexedOf, foundRegion, namedOf, writtenOf}
 use Rattle.operands.proofs.AddressLaws.{address-within, index-below}
-use Rattle.operands.proofs.KindsLaws as kinds
+use Rattle.operands.proofs.KindsLaws.{kind-at}
 use Rattle.machine.proofs.Ends.{Ends, fine, tested, weaken}
 
 -- ---- the region of a cell
 
 module _ (regions : List ℕ) where
-  -- the cell at an index of region r lies in region r
-  pub region-of : (r i : ℕ) → r < regionRows regions → i < regionLength regions r → regionOf regions (addressOf regions r i) ≡ r
-  unfolding addressOf
-  region-of r i h l = kinds.region-of regions r i h l
-
   among-below : (n c : ℕ) → regionAmong regions (suc n) c < suc n
   unfolding regionAmong
   among-below zero c = at (ltb c (firstCell regions 0))
@@ -54,6 +50,7 @@ module _ (regions : List ℕ) where
 -- ---- regions and cells of kind k
 
 pub record Region (regions : List ℕ) (k r : ℕ) : Type 0 where
+  pub laid : Laid regions
   pub there : r < regionRows regions
   pub is : regionKind regions r ≡ k
   pub small : k < 4
@@ -64,26 +61,26 @@ pub record Cell (regions : List ℕ) (k c : ℕ) : Type 0 where
   pub small : k < 4
 
 pub cell-of : {regions : List ℕ} {k r : ℕ} → Region regions k r → (i : ℕ) → i < regionLength regions r → Cell regions k (addressOf regions r i)
-unfolding declaredKind
 cell-of {regions} {k} {r} g i h = record {
-  there = address-within regions r i (g .there) h;
-  is = ap (regionKind regions) (region-of regions r i (g .there) h) ∙ g .is;
+  there = address-within (g .laid) r i (g .there) h;
+  is = kind-at (g .laid) r i (g .there) h ∙ g .is;
   small = g .small;
 }
 
 -- ---- names and indices
 
--- the loader leaves the kinds 0 to 3
-abbrev pub KindsAllowed : List ℕ → Type 0
-KindsAllowed regions = (r : ℕ) → r < regionRows regions → regionKind regions r ≤ 3
+-- what the looks before leave: not too many cells (10), and the kinds 0 to 3 (2)
+pub record RegionsFit (regions : List ℕ) : Type 0 where
+  pub laid : Laid regions
+  pub kind : (r : ℕ) → r < regionRows regions → regionKind regions r ≤ 3
 
-module _ {regions : List ℕ} (kinds : KindsAllowed regions) (name : ℕ) where
+module _ {regions : List ℕ} (fit : RegionsFit regions) (name : ℕ) where
   pub region-at : (r : ℕ) → lookupRegion regions name ≡ At r → Region regions (codeOf regions name) r
   region-at r e =
       let l : r < regionRows regions = region-row regions name r e in
-      let h : regionKind regions r ≤ 3 = kinds r l in
+      let h : regionKind regions r ≤ 3 = fit .kind r l in
       let q : codeOf regions name ≡ regionKind regions r = code-kind regions name e (omega arith) in
-      record { there = l; is = sym q; small = omega arith }
+      record { laid = fit .laid; there = l; is = sym q; small = omega arith }
 
   -- a name that is used, and declared
   pub named-ends : {R : ℕ → Type 0} (t : Bool) → (t ≡ true → codeOf regions name < 8)

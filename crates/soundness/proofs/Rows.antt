@@ -2,8 +2,7 @@
 use Prim.Native.Nat.{ℕ, zero, suc, _^_, _<_}
 use mathlib.Core.Bool.{true, false, false≢true}
 use mathlib.Core.List.{List}
-use mathlib.Core.Path.{_≡_, refl, sym, _∙_}
-use mathlib.Core.Logic.{inl}
+use mathlib.Core.Path.{_≡_, refl, sym, _∙_, subst}
 use native.Mathlib.Omega.{arith}
 use lib.ListN.{length}
 use lib.Dec.{eqb}
@@ -18,15 +17,16 @@ use Rattle.type_check.specs.Rule.{ruleOf}
 use Rattle.type_check.specs.Codes.{firstCode, secondCode, referenceCode, operandCode, rowRule}
 use Rattle.type_check.proofs.CodeLaws.{Code, name-code, operand-code, reference-is, source-is}
 use Rattle.journal.specs.Each.{none}
-use Rattle.operands.specs.Address.{namesSource}
+use Rattle.tables.specs.Names.{operandsOf, namesFirst, namesSecond, indexesFirst, indexesSecond, namesSource}
 use Rattle.operands.specs.Cells.{sourceOf}
-use Rattle.machine.specs.Families.{familyOf}
+use Rattle.machine.specs.Families.{noWrites, families, familyOf}
 use Rattle.machine.specs.Outcome.{plainOutcome}
 use Rattle.operands.specs.declared.address.NamedRegions.{NamedRegions}
 use Rattle.operands.specs.declared.address.Addresses.{Addresses}
+use Rattle.machine.proofs.Past.{past-keys, at-key}
 use Rattle.machine.proofs.Ends.{Ends, Ruled, fine, bind, tested}
-use Rattle.soundness.specs.Sound.{Typed}
-use Rattle.soundness.proofs.Regions.{KindsAllowed}
+use Rattle.operands.specs.Typed.{Typed}
+use Rattle.soundness.proofs.Regions.{RegionsFit}
 use Rattle.soundness.proofs.Operands.{Declared, Placed, names-ends, addresses-ends, logic-form, no-source, past}
 use Rattle.soundness.proofs.Codes as C
 use Rattle.soundness.proofs.Families as F
@@ -35,7 +35,7 @@ use Rattle.soundness.proofs.Values.{Holds, Keeps, source-ends}
 -- ---- what the loader and the type check say of a row
 
 pub record Accepted (regions : List ℕ) (x : Instruction) : Type 0 where
-  pub kinds : KindsAllowed regions
+  pub fit : RegionsFit regions
   pub operator : x .operator < operatorsOf (x .family)
   pub form : formAllowed (x .family) (x .«source_form») ≡ true
   pub word : x .«source_first» < 2 ^ 64
@@ -78,60 +78,66 @@ module _ {regions cells : List ℕ} (typed : Typed regions cells) (x : Instructi
   source : {f : ℕ} {n : NamedRegions} {a : Addresses} → x .«source_form» < 3 → Placed regions x f n a → Ends Ruled (Holds s) (sourceOf cells x (a .source))
   source {a = a} h p = source-ends typed x (a .source) (k .word) h (p .source)
 
+  -- what a row of family f does
+  keyed : (n : NamedRegions) (a : Addresses) {f : ℕ} → x .family ≡ f → Keeps regions (caseOf f (families regions cells x n a) noWrites)
+      → Keeps regions (familyOf regions cells x n a)
+  unfolding familyOf
+  keyed n a q h = subst (Keeps regions) (at-key (families regions cells x n a) noWrites q) h
+
   -- by the family: "18 names" and "18 row's cells", "18 cell reached" are not met where its rule passes
   ready : (f : ℕ) → x .family ≡ f → (f < 8 → ruleOf f (x .operator) d e s ≡ pass) → Ready f
-  unfolding ruleOf familyOf formAllowed operatorsOf caseOf
+  unfolding ruleOf caseOf namesFirst namesSecond indexesFirst indexesSecond operandsOf formAllowed operatorsOf
   ready zero q h =
       let w = C.arithmetic-wants d s dc sc (h (omega arith)) in
       let l = ltb-true _ 3 (rw q at (k .form)) in (
         record { first = λ t. below d (w .0); second = λ t. absurd (false≢true t); source = sourced (w .1 .0) },
-        λ n a p. rw q (F.arithmetic-sound typed x n a d e s (p .first refl) (source l p) w),
+        λ n a p. keyed n a q (F.arithmetic-sound typed x n a d e s (p .first refl) (source l p) w),
       )
   ready (suc zero) q h =
       let w = C.comparison-wants d e s dc ec sc (h (omega arith)) in
       let l = ltb-true _ 3 (rw q at (k .form)) in (
         record { first = λ t. below d (w .0); second = λ t. below e (w .1 .0); source = sourced (w .1 .1 .0) },
-        λ n a p. rw q (F.comparison-sound typed x n a d e s (p .first refl) (p .second refl) (source l p) w),
+        λ n a p. keyed n a q (F.comparison-sound typed x n a d e s (p .first refl) (p .second refl) (source l p) w),
       )
   ready (suc (suc zero)) q h =
       let w = C.logic-wants d s dc sc (h (omega arith)) in
       let l = logic-form (x .«source_form») (rw q at (k .form)) in (
         record { first = λ t. below d (w .0); second = λ t. absurd (false≢true t); source = sourced (w .1 .0) },
-        λ n a p. rw q (F.logic-sound typed x n a d e s (p .first refl) (source l p) w),
+        λ n a p. keyed n a q (F.logic-sound typed x n a d e s (p .first refl) (source l p) w),
       )
   ready (suc (suc (suc zero))) q h =
       let o : x .operator < 2 = rw q at (k .operator) in
-      let w = C.unary-wants d (x .operator) dc (inl (omega arith)) (h (omega arith)) in (
+      let w = C.unary-wants d (x .operator) dc o (h (omega arith)) in (
         record { first = λ t. below d (w .0); second = λ t. absurd (false≢true t); source = no-source (x .«source_form») (rw q at (k .form)) },
-        λ n a p. rw q (F.unary-sound typed x n a d e s (p .first refl) w),
+        λ n a p. keyed n a q (F.unary-sound typed x n a d e s (p .first refl) w),
       )
   ready (suc (suc (suc (suc zero)))) q h =
       let w = C.move-wants d s dc sc (h (omega arith)) in
       let l = ltb-true _ 3 (rw q at (k .form)) in (
         record { first = λ t. below d (w .0); second = λ t. absurd (false≢true t); source = sourced (w .1 .0) },
-        λ n a p. rw q (F.move-sound typed x n a d e s (p .first refl) (source l p) w),
+        λ n a p. keyed n a q (F.move-sound typed x n a d e s (p .first refl) (source l p) w),
       )
   ready (suc (suc (suc (suc (suc zero))))) q h =
       let w = C.exchange-wants d e dc ec (h (omega arith)) in (
         record { first = λ t. below d (w .0); second = λ t. below e (w .1 .0); source = no-source (x .«source_form») (rw q at (k .form)) },
-        λ n a p. rw q (F.exchange-sound typed x n a d e s (p .first refl) (p .second refl) w),
+        λ n a p. keyed n a q (F.exchange-sound typed x n a d e s (p .first refl) (p .second refl) w),
       )
   ready (suc (suc (suc (suc (suc (suc zero)))))) q h =
       let w = C.load-wants d e s dc ec sc (h (omega arith)) in
       let z : namesSource (x .«source_form») ≡ true = rw q at (k .form) in (
         record { first = λ t. below d (w .0); second = λ t. below e (w .1 .0); source = sourced (w .1 .1 .0) },
-        λ n a p. rw q (F.load-sound typed x n a d e s (p .first refl) (p .named .second refl) (rw (reference-is regions x z) (p .source z)) w),
+        λ n a p. keyed n a q (F.load-sound typed x n a d e s (p .first refl) (p .named .second refl) (rw (reference-is regions x z) (p .source z)) w),
       )
   ready (suc (suc (suc (suc (suc (suc (suc zero))))))) q h =
       let w = C.store-wants d e s dc ec sc (h (omega arith)) in
       let l = ltb-true _ 3 (rw q at (k .form)) in (
         record { first = λ t. below d (w .0); second = λ t. below e (w .1 .0); source = sourced (w .1 .1 .0) },
-        λ n a p. rw q (F.store-sound typed x n a d e s (p .named .first refl) (p .second refl) (source l p) w),
+        λ n a p. keyed n a q (F.store-sound typed x n a d e s (p .named .first refl) (p .second refl) (source l p) w),
       )
   ready (suc (suc (suc (suc (suc (suc (suc (suc m)))))))) q h =
       let (a, b) = past (suc (suc (suc (suc (suc (suc (suc (suc m)))))))) (omega arith) in (
         record { first = λ t. absurd (false≢true (sym a ∙ t)); second = λ t. absurd (false≢true (sym b ∙ t)); source = no-source (x .«source_form») (sym (form-past (x .family) (x .«source_form») (omega arith)) ∙ k .form) },
-        λ n a p. rw q (fine none),
+        λ n a p. keyed n a q (rw (past-keys 8 (suc (suc (suc (suc (suc (suc (suc (suc m)))))))) (families regions cells x n a) noWrites refl (omega arith)) (fine none)),
       )
 
   rule : x .family < 8 → ruleOf (x .family) (x .operator) d e s ≡ pass
@@ -144,4 +150,4 @@ module _ {regions cells : List ℕ} (typed : Typed regions cells) (x : Instructi
   plain-sound reply =
       let r = ready (x .family) refl rule in
       tested unfitReply (eqb (length reply) 0) (omega arith) (λ l.
-      bind (names-ends x (k .kinds) (r .0)) (λ n g. bind (addresses-ends x n g) (λ a p. r .1 n a p)))
+      bind (names-ends x (k .fit) (r .0)) (λ n g. bind (addresses-ends x n g) (λ a p. r .1 n a p)))

@@ -20,8 +20,9 @@ use Rattle.journal.proofs.CellsLaws.{each-map}
 use Rattle.call_reply.specs.Call.{callOutcome}
 use Rattle.machine.specs.Outcome.{isCall, isOther, plainOutcome, outcomeOf, outcomeAt}
 use Rattle.machine.proofs.Ends.{Ends, Ruled, tested, weaken, gives, no-18}
-use Rattle.soundness.specs.Sound.{Checked, Typed, GoodWrite, Sound}
-use Rattle.soundness.proofs.Regions.{KindsAllowed}
+use Rattle.operands.specs.Typed.{Typed}
+use Rattle.soundness.specs.Sound.{Checked, GoodWrite, Sound}
+use Rattle.soundness.proofs.Regions.{RegionsFit}
 use Rattle.soundness.proofs.Zeros.{zeros-typed}
 use Rattle.soundness.proofs.Values.{Kept, Keeps}
 use Rattle.soundness.proofs.Rows.{Accepted, plain-sound}
@@ -32,8 +33,8 @@ module _ (t : Tables) (checked : Checked t) where
   tables : Loaded t
   tables = loaded t (checked .loads)
 
-  kinds : KindsAllowed (t .regions)
-  kinds = region-kind tables
+  fit : RegionsFit (t .regions)
+  fit = record { laid = checked .laid; kind = region-kind tables }
 
   -- what was looked at of a row
   accepted : (row : ℕ) → row < instructionRows (t .instructions) → Accepted (t .regions) (instructionAt (t .instructions) row)
@@ -42,7 +43,7 @@ module _ (t : Tables) (checked : Checked t) where
       let x = instructionAt (t .instructions) row in
       let (o, e) = both (ltb (x .operator) (operatorsOf (x .family))) _ (instruction-allowed tables row h) in
       record {
-        kinds = kinds;
+        fit = fit;
         operator = ltb-true (x .operator) (operatorsOf (x .family)) o;
         form = both (formAllowed (x .family) (x .«source_form»)) _ e .0;
         word = checked .words (row * 9 + 7);
@@ -84,12 +85,12 @@ module _ (t : Tables) (checked : Checked t) where
     row-good ws e = at (isCall x) refl (passed (not (isOther x)) _ _ _ e .1)
       where
         at : (c : Bool) → isCall x ≡ c → cond c called plain ≡ ok ws → Each (GoodWrite t x) ws
-        at true q e = call-good t x kinds reply ws e
+        at true q e = call-good t x fit reply ws e
         at false q e = each-map (kept-good x q) (gives ws plain-ends e)
 
   pub sound : Sound t
   sound = record {
-    starts = zeros-typed (t .regions) kinds;
+    starts = zeros-typed (t .regions) fit;
     ruled = λ cells row reply typed h. row-ruled cells typed row h reply;
     good = λ cells row reply ws typed h. row-good cells typed row h reply ws;
   }

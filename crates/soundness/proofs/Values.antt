@@ -6,25 +6,25 @@ use mathlib.Core.Path.{_≡_, refl, sym, _∙_}
 use native.Mathlib.Omega.{arith}
 use lib.Dec.{eqb, ltb}
 use borrow.Author.Tests.{eqb-true, eqb-false, eq-eqb}
-use Rattle.words.specs.Kind.{widthOf, fitsKind}
+use Rattle.words.specs.Kind.{integerLiteral, realLiteral, widthOf, fitsKind}
 use Rattle.words.specs.Width.{lowBits}
 use Rattle.words.specs.Fits.{fits-of, fits-below, lowBits-fits}
 use Rattle.tables.specs.Cases.{caseOf}
 use Rattle.tables.specs.Refusal.{noRule}
-use Rattle.tables.specs.Outcome.{Outcome, ok, _>>_, need}
+use Rattle.tables.specs.Outcome.{Outcome, ok, refuse, _>>_, need}
 use Rattle.tables.specs.Cells.{cellCount}
 use Rattle.tables.specs.declared.rows.Instruction.{Instruction}
 use Rattle.type_check.specs.Codes.{codeOf, operandCode}
 use Rattle.journal.specs.declared.cells.Write.{Write}
 use Rattle.journal.specs.Each.{Each}
-use Rattle.operands.specs.Address.{namesSource}
+use Rattle.tables.specs.Names.{namesSource}
 use Rattle.operands.specs.Cells.{cellKind, readOf, sourceOf, offsetOf, write}
-use Rattle.operators.specs.Operators.{integerLiteral, realLiteral, comparisonKinds}
+use Rattle.operators.specs.Operators.{comparisonKinds}
 use Rattle.machine.specs.Families as F
 use Rattle.operands.specs.declared.cell.Value.{Value}
 use Rattle.machine.proofs.Ends.{Ends, Ruled, fine, bind, ruled}
 use Rattle.machine.proofs.WritesLaws.{single}
-use Rattle.soundness.specs.Sound.{Fits, Typed}
+use Rattle.operands.specs.Typed.{Fits, Typed}
 use Rattle.soundness.proofs.Regions.{Cell}
 
 -- ---- values and writes
@@ -68,18 +68,21 @@ module _ {regions cells : List ℕ} (typed : Typed regions cells) where
       → (namesSource (x .«source_form») ≡ true → Cell regions (codeOf regions (x .«source_first»)) c)
       → Ends Ruled (Holds (operandCode regions x)) (sourceOf cells x c)
   unfolding operandCode sourceOf widthOf caseOf
-  source-ends x c w f t = at (eqb (x .«source_form») 0) (eqb (x .«source_form») 1) refl refl
+  source-ends x c w f t = at (eqb (x .«source_form») 0) (eqb (x .«source_form») 1) (eqb (x .«source_form») 2) refl refl refl
     where
-      at : (a b : Bool) → eqb (x .«source_form») 0 ≡ a → eqb (x .«source_form») 1 ≡ b
+      at : (a b r : Bool) → eqb (x .«source_form») 0 ≡ a → eqb (x .«source_form») 1 ≡ b → eqb (x .«source_form») 2 ≡ r
           → Ends Ruled (Holds (cond a integerLiteral (cond b realLiteral (codeOf regions (x .«source_first»)))))
-          (cond a (ok (record { kind = integerLiteral; word = x .«source_first» })) (cond b (ok (record { kind = realLiteral; word = x .«source_first» })) (readOf cells c)))
-      at true b ea eb = fine (record { kind-is = refl; below = w })
-      at false true ea eb = fine (record { kind-is = refl; below = w })
-      at false false ea eb = read-ends (t (eq-eqb (x .«source_form») 2 (omega (arith, eqb-false (x .«source_form») 0 ea, eqb-false (x .«source_form») 1 eb))))
+          (cond a (ok (record { kind = integerLiteral; word = x .«source_first» })) (cond b (ok (record { kind = realLiteral; word = x .«source_first» }))
+          (cond r (readOf cells c) (refuse noRule))))
+      at true b r ea eb er = fine (record { kind-is = refl; below = w })
+      at false true r ea eb er = fine (record { kind-is = refl; below = w })
+      at false false true ea eb er = read-ends (t er)
+      at false false false ea eb er =
+          absurd (omega (arith, eqb-false (x .«source_form») 0 ea, eqb-false (x .«source_form») 1 eb, eqb-false (x .«source_form») 2 er))
 
   -- a source that fits the kind of the cell that it is put into
   pub put-ends : {k s c : ℕ} (v : Value) → Cell regions k c → Holds s v → comparisonKinds k s ≡ true → Keeps regions (F.putInto cells c v)
-  unfolding F.putInto widthOf
+  unfolding F.putInto caseOf widthOf
   put-ends {k} {s} {c} v t h e = rw (h .kind-is, cell-kind t) (at (eqb s integerLiteral) (eqb s realLiteral) refl refl e)
     where
       at : (a b : Bool) → eqb s integerLiteral ≡ a → eqb s realLiteral ≡ b → cond a (ltb k 3) (cond b (eqb k 3) (eqb k s)) ≡ true

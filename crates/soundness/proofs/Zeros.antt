@@ -10,20 +10,20 @@ use Rattle.tables.specs.Rows.{regionKind}
 use Rattle.tables.specs.Cells.{cellCount}
 use Rattle.operands.specs.Kinds.{regionOf, declaredKind, zeros}
 use Rattle.operands.proofs.KindsLaws.{length-zeros, zeros-at}
-use Rattle.soundness.specs.Sound.{Fits, Typed}
-use Rattle.soundness.proofs.Regions.{KindsAllowed, region-below}
+use Rattle.operands.specs.Typed.{Typed}
+use Rattle.soundness.proofs.Regions.{RegionsFit, region-below}
 
 module _ (regions : List ℕ) where
-  declared-below : KindsAllowed regions → (c : ℕ) → c < cellCount regions → declaredKind regions c < 4
+  declared-below : RegionsFit regions → (c : ℕ) → c < cellCount regions → declaredKind regions c < 4
   unfolding declaredKind
-  declared-below kinds c h = let k : regionKind regions (regionOf regions c) ≤ 3 = kinds (regionOf regions c) (region-below regions c h) in omega arith
+  declared-below fit c h = let k : regionKind regions (regionOf regions c) ≤ 3 = fit .kind (regionOf regions c) (region-below regions c h) in omega arith
 
   -- "Open zeroes each cell with its declared kind"
-  pub zeros-typed : KindsAllowed regions → Typed regions (zeros regions)
-  zeros-typed kinds = record {
+  pub zeros-typed : RegionsFit regions → Typed regions (zeros regions)
+  zeros-typed fit = record {
     wide = length-zeros regions;
     each = λ c l. rw (zeros-at regions c l) (record {
       kind = refl;
-      word = fits-of (declaredKind regions c) 0 (declared-below kinds c l) (pow-pos (widthOf (declaredKind regions c)));
+      word = fits-of (declaredKind regions c) 0 (declared-below fit c l) (pow-pos (widthOf (declaredKind regions c)));
     });
   }

@@ -1,10 +1,8 @@
 -- What holds of every row's outcome on cells of the declared kinds, and what of open's acceptance it rests on.
-use Prim.Native.Nat.{ℕ, _*_, _^_, _<_}
-use mathlib.Core.Bool.{true}
+use Prim.Native.Nat.{ℕ, _^_, _<_}
 use mathlib.Core.List.{List}
 use mathlib.Core.Path.{_≡_}
-use lib.ListN.{length, getD}
-use Rattle.words.specs.Kind.{fitsKind}
+use lib.ListN.{getD}
 use Rattle.tables.specs.Refusal.{noRule}
 use Rattle.tables.specs.Outcome.{Outcome, ok, refuse}
 use Rattle.tables.specs.Tables.{Tables}
@@ -15,32 +13,25 @@ use Rattle.tables.specs.declared.rows.Instruction.{Instruction}
 use Rattle.type_check.specs.Check.{checkOf}
 use Rattle.type_check.specs.declared.error.Verdict.the-variants.{Accepted}
 use Rattle.journal.specs.declared.cells.Write as journal
-use Rattle.journal.specs.Cells.{held}
 use Rattle.journal.specs.Each.{Each}
-use Rattle.operands.specs.Kinds.{declaredKind, zeros}
+use Rattle.operands.specs.Kinds.{zeros}
+use Rattle.operands.specs.Reach.{Laid}
+use Rattle.operands.specs.Typed.{Fits, Typed}
 use Rattle.machine.specs.Outcome.{outcomeAt}
 use Rattle.soundness.specs.WriteSet.{MayChange}
 
 -- ---- what it rests on
 
--- Of open's acceptance: the loader's looks (1, 2, 3) and the type check (5). That every CALL resolves (6, 7, 8) is not used: a CALL that does not is refused by these numbers.
+-- Of open's acceptance: the loader's looks (1, 2, 3), 10 and the type check (5). That every CALL resolves (6, 7, 8) is not used: a CALL that does not is refused by these numbers.
 pub record Checked (t : Tables) : Type 0 where
   pub loads : loadLook t ≡ ok tt
   pub passes : checkOf (t .regions) (t .nodes) (t .instructions) ≡ Accepted
+  -- "at most 4,096 cells"
+  pub laid : Laid (t .regions)
   -- "Tables, in 64-bit words"
   pub words : (i : ℕ) → getD (t .instructions) i 0 < 2 ^ 64
 
--- ---- cells and writes
-
--- what a cell holds, or gets: its declared kind, and a word of that kind
-pub record Fits (regions : List ℕ) (w : journal.Write) : Type 0 where
-  pub kind : w .kind ≡ declaredKind regions (w .cell)
-  pub word : fitsKind (w .kind) (w .word) ≡ true
-
--- demand 3: "every cell has its declared kind"
-pub record Typed (regions cells : List ℕ) : Type 0 where
-  pub wide : length cells ≡ 2 * cellCount regions
-  pub each : (c : ℕ) → c < cellCount regions → Fits regions (held cells c)
+-- ---- writes
 
 -- a write of a row: to a cell that is there, of its declared kind, and one that the row may change
 pub record GoodWrite (t : Tables) (x : Instruction) (w : journal.Write) : Type 0 where

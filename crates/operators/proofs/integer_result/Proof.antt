@@ -1,6 +1,7 @@
 use borrow.Author.Needs.{needs}
+use Rattle.tables.specs.Cases.{caseOf}
+use Rattle.tables.proofs.Cases.{other-arm}
 use Rattle.operators.specs.Operators.{integerResults, integerResult}
-use Rattle.tables.proofs.Cases.{rest-arm}
 use Rattle.operators.proofs.integer_result.Statement.{statement}
 use Rattle.operators.proofs.integer_result.Tie as tie
 
@@ -17,20 +18,24 @@ multiply-requires : tie.Need-multiply-requires
 multiply-requires c κs = search needs
 
 returns : tie.Need-returns
-unfolding integerResult
+unfolding integerResult caseOf
 returns c = rw (c .before .match .keys1, c .add .ensures)
 
 returns-2 : tie.Need-returns-2
-unfolding integerResult
+unfolding integerResult caseOf
 returns-2 c = rw (c .before .match .keys2, c .subtract .ensures)
 
 returns-3 : tie.Need-returns-3
-unfolding integerResult
+unfolding integerResult caseOf
 returns-3 c = rw (c .before .match .keys3, c .divide .ensures)
 
 returns-4 : tie.Need-returns-4
+unfolding integerResult caseOf
+returns-4 c = rw (c .before .match .keys4, c .multiply .ensures)
+
+returns-5 : tie.Need-returns-5
 unfolding integerResult
-returns-4 c = rw (c .multiply .ensures) (rest-arm (integerResults (c .before .before .args .a) (c .before .before .args .b)) _ (c .before .before .args .operator) (c .before .match .rest))
+returns-5 c = other-arm (integerResults (c .before .args .a) (c .before .args .b)) _ _ (c .match .rest)
 
 pub integer-result-spec : {M : Type 1} → statement M
 integer-result-spec =
@@ -43,4 +48,5 @@ integer-result-spec =
     returns
     returns-2
     returns-3
-    returns-4)
+    returns-4
+    returns-5)

@@ -1,7 +1,8 @@
 use borrow.Author.Needs.{needs}
-use Rattle.operators.specs.Operators.{logicResults, logicResult}
+use Rattle.tables.specs.Cases.{caseOf}
+use Rattle.tables.proofs.Cases.{other-arm}
 use Rattle.words.specs.Kind.{widthOf}
-use Rattle.tables.proofs.Cases.{rest-arm}
+use Rattle.operators.specs.Operators.{logicResults, logicResult}
 use Rattle.operators.proofs.logic_result.Statement.{statement}
 use Rattle.operators.proofs.logic_result.Tie as tie
 
@@ -24,28 +25,32 @@ ashr-requires : tie.Need-ashr-requires
 ashr-requires c κs = search needs
 
 returns : tie.Need-returns
-unfolding logicResult
+unfolding logicResult caseOf
 returns c = rw (c .before .match .keys1, c .and .ensures)
 
 returns-2 : tie.Need-returns-2
-unfolding logicResult
+unfolding logicResult caseOf
 returns-2 c = rw (c .before .match .keys2, c .ior .ensures)
 
 returns-3 : tie.Need-returns-3
-unfolding logicResult
+unfolding logicResult caseOf
 returns-3 c = rw (c .before .match .keys3, c .xor .ensures)
 
 returns-4 : tie.Need-returns-4
-unfolding logicResult
+unfolding logicResult caseOf
 returns-4 c = rw (c .before .match .keys4, c .shl .ensures)
 
 returns-5 : tie.Need-returns-5
-unfolding logicResult
+unfolding logicResult caseOf
 returns-5 c = rw (c .before .match .keys5, c .shr .ensures)
 
 returns-6 : tie.Need-returns-6
+unfolding logicResult caseOf
+returns-6 c = rw (c .before .match .keys6, c .ashr .ensures)
+
+returns-7 : tie.Need-returns-7
 unfolding logicResult
-returns-6 c = rw (c .ashr .ensures) (rest-arm (logicResults (widthOf (c .before .before .args .kind)) (c .before .before .args .v) (c .before .before .args .s)) _ (c .before .before .args .operator) (c .before .match .rest))
+returns-7 c = other-arm (logicResults (widthOf (c .before .args .kind)) (c .before .args .v) (c .before .args .s)) _ _ (c .match .rest)
 
 pub logic-result-spec : {M : Type 1} → statement M
 logic-result-spec =
@@ -62,4 +67,5 @@ logic-result-spec =
     returns-3
     returns-4
     returns-5
-    returns-6)
+    returns-6
+    returns-7)

@@ -1,6 +1,7 @@
 use borrow.Author.Needs.{needs}
+use Rattle.tables.specs.Cases.{caseOf}
+use Rattle.tables.proofs.Cases.{other-arm}
 use Rattle.operators.specs.Operators.{realResults, realResult}
-use Rattle.tables.proofs.Cases.{rest-arm}
 use Rattle.operators.proofs.real_result.Statement.{statement}
 use Rattle.operators.proofs.real_result.Tie as tie
 
@@ -17,20 +18,24 @@ multiply-requires : tie.Need-multiply-requires
 multiply-requires c κs = search needs
 
 returns : tie.Need-returns
-unfolding realResult
+unfolding realResult caseOf
 returns c = rw (c .before .match .keys1, c .add .ensures)
 
 returns-2 : tie.Need-returns-2
-unfolding realResult
+unfolding realResult caseOf
 returns-2 c = rw (c .before .match .keys2, c .subtract .ensures)
 
 returns-3 : tie.Need-returns-3
-unfolding realResult
+unfolding realResult caseOf
 returns-3 c = rw (c .before .match .keys3, c .divide .ensures)
 
 returns-4 : tie.Need-returns-4
+unfolding realResult caseOf
+returns-4 c = rw (c .before .match .keys4, c .multiply .ensures)
+
+returns-5 : tie.Need-returns-5
 unfolding realResult
-returns-4 c = rw (c .multiply .ensures) (rest-arm (realResults (c .before .before .args .a) (c .before .before .args .b)) _ (c .before .before .args .operator) (c .before .match .rest))
+returns-5 c = other-arm (realResults (c .before .args .a) (c .before .args .b)) _ _ (c .match .rest)
 
 pub real-result-spec : {M : Type 1} → statement M
 real-result-spec =
@@ -43,4 +48,5 @@ real-result-spec =
     returns
     returns-2
     returns-3
-    returns-4)
+    returns-4
+    returns-5)

@@ -10,7 +10,10 @@ enum-known-resolution : tie.Need-enum-known-resolution
 enum-known-resolution c = search needs
 
 argument-cell-requires : tie.Need-argument-cell-requires
-argument-cell-requires c κs = (c .before .before .before .before .before .before .before .pre .few, rw (sym (c .before .before .before .resolve-at .ensures) ∙ c .before .resolution .given .1) at (c .before .before .before .before .before .before .before .pre .cell))
+argument-cell-requires c κs =
+    let at = c .before .before .before in
+    let pre = at .before .before .before .before .pre in
+    (pre .laid, rw (sym (at .resolve-at .ensures) ∙ c .before .resolution .given .1) at (pre .cell))
 
 enum-told : tie.Need-enum-told
 enum-told c = search needs

@@ -1,11 +1,35 @@
+use mathlib.Core.Bool.{true}
+use mathlib.Core.Path.{_≡_, sym, _∙_}
 use borrow.Author.Needs.{needs}
-use mathlib.Core.Path.{sym, _∙_}
 use borrow.Author.Tests.{not-true, not-false}
-use Rattle.tables.specs.Outcome.{_>>=_, _>>_, need, seen}
-use Rattle.operands.specs.Cells.{readOutcome}
+use Rattle.tables.specs.Outcome.{ok, _>>=_, _>>_, need, seen}
+use Rattle.operands.specs.Cells.{readOf, sourceOf, readOutcome}
+use Rattle.operators.specs.Operators.{comparisonKinds}
 use Rattle.machine.specs.Families.{comparisonOf}
 use Rattle.machine.proofs.family.comparison.Statement.{statement}
 use Rattle.machine.proofs.family.comparison.Tie as tie
+
+-- ---- the places: both operands were read, and their kinds have a rule
+
+abbrev entry : tie.After-l → tie.Start
+entry l = l .before .before .before .before
+
+abbrev operand-of : tie.After-s → tie.After-l
+operand-of s = s .before .before .before .before
+
+abbrev source-of : tie.Else1 → tie.After-s
+source-of k = k .before .before .before
+
+operand : (l : tie.After-l) → let a = entry l .args in readOf (a .cells .now) (a .a .second) ≡ ok (l .l .given .0 .0)
+operand l = seen readOutcome (l .before .before .read-cell .ensures) (l .l .given .1)
+
+source : (s : tie.After-s) → let a = entry (operand-of s) .args in sourceOf (a .cells .now) (a .x) (a .a .source) ≡ ok (s .s .given .0 .0)
+source s = seen readOutcome (s .before .before .read-source .ensures) (s .s .given .1)
+
+ruled : (k : tie.Else1) → let s = source-of k in comparisonKinds (operand-of s .l .given .0 .0 .kind) (s .s .given .0 .0 .kind) ≡ true
+ruled k = sym (k .before .comparison-kinds .ensures) ∙ not-false _ (k .if1 .left)
+
+-- ---- the needs
 
 read-cell-requires : tie.Need-read-cell-requires
 read-cell-requires c κs = search needs
@@ -21,7 +45,7 @@ unfolding comparisonOf _>>=_ _>>_ need
 returns c = rw (seen readOutcome (c .before .before .read-cell .ensures) (c .enum-told .given .1))
 
 read-source-requires : tie.Need-read-source-requires
-read-source-requires c κs = search needs
+read-source-requires c κs = entry (c .before) .pre .source
 
 enum-known-s : tie.Need-enum-known-s
 enum-known-s c = search needs
@@ -31,21 +55,23 @@ enum-told-2 c = search needs
 
 returns-2 : tie.Need-returns-2
 unfolding comparisonOf _>>=_ _>>_ need
-returns-2 c = rw (seen readOutcome (c .before .before .before .before .before .before .read-cell .ensures) (c .before .before .before .before .l .given .1), seen readOutcome (c .before .before .read-source .ensures) (c .enum-told2 .given .1))
+returns-2 c = rw (operand (c .before .before .before .before), seen readOutcome (c .before .before .read-source .ensures) (c .enum-told2 .given .1))
 
 comparison-kinds-requires : tie.Need-comparison-kinds-requires
 comparison-kinds-requires c κs = search needs
 
 returns-3 : tie.Need-returns-3
 unfolding comparisonOf _>>=_ _>>_ need
-returns-3 c = rw (seen readOutcome (c .before .before .before .before .before .before .before .before .before .read-cell .ensures) (c .before .before .before .before .before .before .before .l .given .1), seen readOutcome (c .before .before .before .before .before .read-source .ensures) (c .before .before .before .s .given .1), sym (c .before .comparison-kinds .ensures) ∙ not-true _ (c .if1 .taken))
+returns-3 c =
+    let s = c .before .before .before in
+    rw (operand (operand-of s), source s, sym (c .before .comparison-kinds .ensures) ∙ not-true _ (c .if1 .taken))
 
 comparison-result-requires : tie.Need-comparison-result-requires
 comparison-result-requires c κs = search needs
 
 returns-4 : tie.Need-returns-4
 unfolding comparisonOf _>>=_ _>>_ need
-returns-4 c = rw (seen readOutcome (c .before .before .before .before .before .before .before .before .before .before .read-cell .ensures) (c .before .before .before .before .before .before .before .before .l .given .1), seen readOutcome (c .before .before .before .before .before .before .read-source .ensures) (c .before .before .before .before .s .given .1), sym (c .before .before .comparison-kinds .ensures) ∙ not-false _ (c .before .if1 .left), c .comparison-result .ensures)
+returns-4 c = let k = c .before in let s = source-of k in rw (operand (operand-of s), source s, ruled k, c .comparison-result .ensures)
 
 pub comparison-spec : {M : Type 1} → statement M
 comparison-spec =

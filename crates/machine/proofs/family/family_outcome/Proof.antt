@@ -1,10 +1,18 @@
-use Rattle.machine.specs.Families.{families, familyOf}
-use mathlib.Core.List.{[]}
-use Rattle.tables.specs.Outcome.{ok}
-use Rattle.tables.proofs.Cases.{rest-arm}
+use Prim.Native.Nat.{ℕ}
+use mathlib.Core.List.{List}
+use mathlib.Core.Path.{_∙_}
+use Rattle.journal.specs.declared.cells.Write.{Write}
+use Rattle.machine.specs.Families.{noWrites, families, familyOf}
+use Rattle.machine.proofs.Past.{at-key}
+use Rattle.tables.specs.Cases.{caseOf}
+use Rattle.tables.specs.Outcome.{Outcome}
+use Rattle.tables.proofs.Cases.{other-arm}
 use Rattle.machine.proofs.Reaches.{arithmetic-reach, comparison-reach, logic-reach, unary-reach, move-reach, exchange-reach, load-reach, store-reach}
 use Rattle.machine.proofs.family.family_outcome.Statement.{statement}
 use Rattle.machine.proofs.family.family_outcome.Tie as tie
+
+abbrev all : tie.Start → List (ℕ × Outcome (List Write))
+all s = families (s .args .regions .now) (s .args .cells .now) (s .args .x) (s .args .n) (s .args .a)
 
 arithmetic-requires : tie.Need-arithmetic-requires
 arithmetic-requires c κs = arithmetic-reach (c .before .before .before .pre) (c .match .keys1)
@@ -31,40 +39,40 @@ store-requires : tie.Need-store-requires
 store-requires c κs = store-reach (c .before .before .before .pre) (c .match .keys8)
 
 returns : tie.Need-returns
-unfolding familyOf
-returns c = rw (c .before .match .keys1) (c .arithmetic .ensures)
+unfolding familyOf caseOf
+returns c = c .arithmetic .ensures ∙ at-key (all (c .before .before .before .before)) noWrites (c .before .match .keys1)
 
 returns-2 : tie.Need-returns-2
-unfolding familyOf
-returns-2 c = rw (c .before .match .keys2) (c .comparison .ensures)
+unfolding familyOf caseOf
+returns-2 c = c .comparison .ensures ∙ at-key (all (c .before .before .before .before)) noWrites (c .before .match .keys2)
 
 returns-3 : tie.Need-returns-3
-unfolding familyOf
-returns-3 c = rw (c .before .match .keys3) (c .logic .ensures)
+unfolding familyOf caseOf
+returns-3 c = c .logic .ensures ∙ at-key (all (c .before .before .before .before)) noWrites (c .before .match .keys3)
 
 returns-4 : tie.Need-returns-4
-unfolding familyOf
-returns-4 c = rw (c .before .match .keys4) (c .unary .ensures)
+unfolding familyOf caseOf
+returns-4 c = c .unary .ensures ∙ at-key (all (c .before .before .before .before)) noWrites (c .before .match .keys4)
 
 returns-5 : tie.Need-returns-5
-unfolding familyOf
-returns-5 c = rw (c .before .match .keys5) (c .move-source .ensures)
+unfolding familyOf caseOf
+returns-5 c = c .move-source .ensures ∙ at-key (all (c .before .before .before .before)) noWrites (c .before .match .keys5)
 
 returns-6 : tie.Need-returns-6
-unfolding familyOf
-returns-6 c = rw (c .before .match .keys6) (c .exchange .ensures)
+unfolding familyOf caseOf
+returns-6 c = c .exchange .ensures ∙ at-key (all (c .before .before .before .before)) noWrites (c .before .match .keys6)
 
 returns-7 : tie.Need-returns-7
-unfolding familyOf
-returns-7 c = rw (c .before .match .keys7) (c .load .ensures)
+unfolding familyOf caseOf
+returns-7 c = c .load .ensures ∙ at-key (all (c .before .before .before .before)) noWrites (c .before .match .keys7)
 
 returns-8 : tie.Need-returns-8
-unfolding familyOf
-returns-8 c = rw (c .before .match .keys8) (c .store .ensures)
+unfolding familyOf caseOf
+returns-8 c = c .store .ensures ∙ at-key (all (c .before .before .before .before)) noWrites (c .before .match .keys8)
 
 returns-9 : tie.Need-returns-9
 unfolding familyOf
-returns-9 c = rest-arm (families _ _ _ _ _) (ok []) _ (c .match .rest)
+returns-9 c = other-arm (all (c .before .before .before)) noWrites _ (c .match .rest)
 
 pub family-outcome-spec : {M : Type 1} → statement M
 family-outcome-spec =

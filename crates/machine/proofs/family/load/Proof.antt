@@ -1,12 +1,29 @@
+use mathlib.Core.Path.{_≡_}
 use borrow.Author.Needs.{needs}
-use Rattle.tables.specs.Outcome.{_>>=_, seen}
-use Rattle.operands.specs.Cells.{readOutcome, offsetOutcome}
-use Rattle.operands.specs.Address.{indexedOutcome}
+use Rattle.tables.specs.Outcome.{ok, _>>=_, seen}
+use Rattle.operands.specs.Cells.{offsetOf, readOutcome, offsetOutcome}
+use Rattle.operands.specs.Address.{indexedOf, indexedOutcome}
 use Rattle.operands.proofs.AddressLaws.{indexed-within}
 use Rattle.operands.proofs.Reaches.{in-cells}
 use Rattle.machine.specs.Families.{loadOf}
 use Rattle.machine.proofs.family.load.Statement.{statement}
 use Rattle.machine.proofs.family.load.Tie as tie
+
+-- ---- the places: the offset was read, it reaches a cell
+
+abbrev entry : tie.After-i → tie.Start
+entry i = i .before .before .before .before .before
+
+abbrev offset-of : tie.After-c → tie.After-i
+offset-of c = c .before .before .before .before
+
+offset : (i : tie.After-i) → let a = entry i .args in offsetOf (a .cells .now) (a .a .source) ≡ ok (i .i .given .0 .0)
+offset i = seen offsetOutcome (i .before .before .read-offset .ensures) (i .i .given .1)
+
+reached : (c : tie.After-c) → let i = offset-of c in let a = entry i .args in indexedOf (a .regions .now) (a .n .second) (i .i .given .0 .0) ≡ ok (c .c .given .0 .0)
+reached c = seen indexedOutcome (c .before .before .index-cell .ensures) (c .c .given .1)
+
+-- ---- the needs
 
 read-offset-requires : tie.Need-read-offset-requires
 read-offset-requires c κs = search needs
@@ -22,7 +39,7 @@ unfolding loadOf _>>=_
 returns c = rw (seen offsetOutcome (c .before .before .read-offset .ensures) (c .enum-told .given .1))
 
 index-cell-requires : tie.Need-index-cell-requires
-index-cell-requires c κs = (c .before .before .before .before .before .before .pre .region, c .before .before .before .before .before .before .pre .layout .few)
+index-cell-requires c κs = let pre = entry (c .before) .pre in (pre .region, pre .layout .laid)
 
 enum-known-c : tie.Need-enum-known-c
 enum-known-c c = search needs
@@ -32,10 +49,13 @@ enum-told-2 c = search needs
 
 returns-2 : tie.Need-returns-2
 unfolding loadOf _>>=_
-returns-2 c = rw (seen offsetOutcome (c .before .before .before .before .before .before .read-offset .ensures) (c .before .before .before .before .i .given .1), seen indexedOutcome (c .before .before .index-cell .ensures) (c .enum-told2 .given .1))
+returns-2 c = rw (offset (c .before .before .before .before), seen indexedOutcome (c .before .before .index-cell .ensures) (c .enum-told2 .given .1))
 
 read-cell-requires : tie.Need-read-cell-requires
-read-cell-requires c κs = in-cells (c .before .before .before .before .before .before .before .before .before .before .pre .layout) (indexed-within (c .before .before .before .before .before .before .before .before .before .before .args .regions .now) (c .before .before .before .before .before .before .before .before .before .before .args .n .second) (c .before .before .before .before .before .i .given .0 .0) (c .before .before .before .before .before .before .before .before .before .before .pre .region) (seen indexedOutcome (c .before .before .before .index-cell .ensures) (c .before .c .given .1)))
+read-cell-requires c κs =
+    let i = offset-of (c .before) in
+    let s = entry i in
+    in-cells (s .pre .layout) (indexed-within (s .pre .layout .laid) (s .args .n .second) (i .i .given .0 .0) (s .pre .region) (reached (c .before)))
 
 enum-known-v : tie.Need-enum-known-v
 enum-known-v c = search needs
@@ -45,11 +65,16 @@ enum-told-3 c = search needs
 
 returns-3 : tie.Need-returns-3
 unfolding loadOf _>>=_
-returns-3 c = rw (seen offsetOutcome (c .before .before .before .before .before .before .before .before .before .before .read-offset .ensures) (c .before .before .before .before .before .before .before .before .i .given .1), seen indexedOutcome (c .before .before .before .before .before .before .index-cell .ensures) (c .before .before .before .before .c .given .1), seen readOutcome (c .before .before .read-cell .ensures) (c .enum-told3 .given .1))
+returns-3 c =
+    let r = c .before .before .before .before in
+    rw (offset (offset-of r), reached r, seen readOutcome (c .before .before .read-cell .ensures) (c .enum-told3 .given .1))
 
 returns-4 : tie.Need-returns-4
 unfolding loadOf _>>=_
-returns-4 c = rw (seen offsetOutcome (c .before .before .before .before .before .before .before .before .before .before .before .read-offset .ensures) (c .before .before .before .before .before .before .before .before .before .i .given .1), seen indexedOutcome (c .before .before .before .before .before .before .before .index-cell .ensures) (c .before .before .before .before .before .c .given .1), seen readOutcome (c .before .before .before .read-cell .ensures) (c .before .v .given .1))
+returns-4 c =
+    let v = c .before in
+    let r = v .before .before .before .before in
+    rw (offset (offset-of r), reached r, seen readOutcome (v .before .before .read-cell .ensures) (v .v .given .1))
 
 pub load-spec : {M : Type 1} → statement M
 load-spec =

@@ -1,12 +1,35 @@
+use mathlib.Core.Bool.{true}
+use mathlib.Core.Path.{_≡_, sym, _∙_}
 use borrow.Author.Needs.{needs}
-use mathlib.Core.Path.{sym, _∙_}
 use borrow.Author.Tests.{not-true, not-false}
-use Rattle.tables.specs.Outcome.{_>>=_, _>>_, need, seen}
-use Rattle.operands.specs.Cells.{readOutcome}
-use Rattle.operators.specs.Operators.{shiftedOutcome}
+use Rattle.tables.specs.Outcome.{ok, _>>=_, _>>_, need, seen}
+use Rattle.operands.specs.Cells.{readOf, sourceOf, readOutcome}
+use Rattle.operators.specs.Operators.{logicKinds, shiftedOutcome}
 use Rattle.machine.specs.Families.{logicOf}
 use Rattle.machine.proofs.family.logic.Statement.{statement}
 use Rattle.machine.proofs.family.logic.Tie as tie
+
+-- ---- the places: both operands were read, and their kinds have a rule
+
+abbrev entry : tie.After-d → tie.Start
+entry d = d .before .before .before .before
+
+abbrev operand-of : tie.After-s → tie.After-d
+operand-of s = s .before .before .before .before
+
+abbrev source-of : tie.Else1 → tie.After-s
+source-of k = k .before .before .before
+
+operand : (d : tie.After-d) → let a = entry d .args in readOf (a .cells .now) (a .a .first) ≡ ok (d .d .given .0 .0)
+operand d = seen readOutcome (d .before .before .read-cell .ensures) (d .d .given .1)
+
+source : (s : tie.After-s) → let a = entry (operand-of s) .args in sourceOf (a .cells .now) (a .x) (a .a .source) ≡ ok (s .s .given .0 .0)
+source s = seen readOutcome (s .before .before .read-source .ensures) (s .s .given .1)
+
+ruled : (k : tie.Else1) → let s = source-of k in logicKinds (operand-of s .d .given .0 .0 .kind) (s .s .given .0 .0 .kind) ≡ true
+ruled k = sym (k .before .logic-kinds .ensures) ∙ not-false _ (k .if1 .left)
+
+-- ---- the needs
 
 read-cell-requires : tie.Need-read-cell-requires
 read-cell-requires c κs = search needs
@@ -22,7 +45,7 @@ unfolding logicOf _>>=_ _>>_ need
 returns c = rw (seen readOutcome (c .before .before .read-cell .ensures) (c .enum-told .given .1))
 
 read-source-requires : tie.Need-read-source-requires
-read-source-requires c κs = search needs
+read-source-requires c κs = entry (c .before) .pre .source
 
 enum-known-s : tie.Need-enum-known-s
 enum-known-s c = search needs
@@ -32,14 +55,16 @@ enum-told-2 c = search needs
 
 returns-2 : tie.Need-returns-2
 unfolding logicOf _>>=_ _>>_ need
-returns-2 c = rw (seen readOutcome (c .before .before .before .before .before .before .read-cell .ensures) (c .before .before .before .before .d .given .1), seen readOutcome (c .before .before .read-source .ensures) (c .enum-told2 .given .1))
+returns-2 c = rw (operand (c .before .before .before .before), seen readOutcome (c .before .before .read-source .ensures) (c .enum-told2 .given .1))
 
 logic-kinds-requires : tie.Need-logic-kinds-requires
 logic-kinds-requires c κs = search needs
 
 returns-3 : tie.Need-returns-3
 unfolding logicOf _>>=_ _>>_ need
-returns-3 c = rw (seen readOutcome (c .before .before .before .before .before .before .before .before .before .read-cell .ensures) (c .before .before .before .before .before .before .before .d .given .1), seen readOutcome (c .before .before .before .before .before .read-source .ensures) (c .before .before .before .s .given .1), sym (c .before .logic-kinds .ensures) ∙ not-true _ (c .if1 .taken))
+returns-3 c =
+    let s = c .before .before .before in
+    rw (operand (operand-of s), source s, sym (c .before .logic-kinds .ensures) ∙ not-true _ (c .if1 .taken))
 
 logic-result-requires : tie.Need-logic-result-requires
 logic-result-requires c κs = search needs
@@ -52,11 +77,18 @@ enum-told-3 c = search needs
 
 returns-4 : tie.Need-returns-4
 unfolding logicOf _>>=_ _>>_ need
-returns-4 c = rw (seen readOutcome (c .before .before .before .before .before .before .before .before .before .before .before .before .read-cell .ensures) (c .before .before .before .before .before .before .before .before .before .before .d .given .1), seen readOutcome (c .before .before .before .before .before .before .before .before .read-source .ensures) (c .before .before .before .before .before .before .s .given .1), sym (c .before .before .before .before .logic-kinds .ensures) ∙ not-false _ (c .before .before .before .if1 .left), seen shiftedOutcome (c .before .before .logic-result .ensures) (c .enum-told3 .given .1))
+returns-4 c =
+    let k = c .before .before .before in
+    let s = source-of k in
+    rw (operand (operand-of s), source s, ruled k, seen shiftedOutcome (c .before .before .logic-result .ensures) (c .enum-told3 .given .1))
 
 returns-5 : tie.Need-returns-5
 unfolding logicOf _>>=_ _>>_ need
-returns-5 c = rw (seen readOutcome (c .before .before .before .before .before .before .before .before .before .before .before .before .before .read-cell .ensures) (c .before .before .before .before .before .before .before .before .before .before .before .d .given .1), seen readOutcome (c .before .before .before .before .before .before .before .before .before .read-source .ensures) (c .before .before .before .before .before .before .before .s .given .1), sym (c .before .before .before .before .before .logic-kinds .ensures) ∙ not-false _ (c .before .before .before .before .if1 .left), seen shiftedOutcome (c .before .before .before .logic-result .ensures) (c .before .word .given .1))
+returns-5 c =
+    let w = c .before in
+    let k = w .before .before .before in
+    let s = source-of k in
+    rw (operand (operand-of s), source s, ruled k, seen shiftedOutcome (w .before .before .logic-result .ensures) (w .word .given .1))
 
 pub logic-spec : {M : Type 1} → statement M
 logic-spec =

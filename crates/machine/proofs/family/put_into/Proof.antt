@@ -1,10 +1,17 @@
+use Prim.Native.Nat.{ℕ}
 use borrow.Author.Needs.{needs}
 use borrow.Author.Tests.{eq-eqb, ne-eqb, lt-ltb, le-ltb}
+use Rattle.tables.specs.Cases.{caseOf}
 use Rattle.tables.specs.Outcome.{_>>_, need}
+use Rattle.tables.proofs.Cases.{other-arm}
 use Rattle.operands.specs.Cells.{cellKind}
-use Rattle.machine.specs.Families.{putInto}
+use Rattle.machine.specs.Families.{literals, copied, putInto}
 use Rattle.machine.proofs.family.put_into.Statement.{statement}
 use Rattle.machine.proofs.family.put_into.Tie as tie
+
+-- the target's kind was read
+abbrev kind : tie.After-shared-slice-known2 → ℕ
+kind r = let a = r .before .before .args in cellKind (a .cells .now) (a .c)
 
 mul-kind : tie.Need-mul-kind
 mul-kind c = search needs
@@ -19,24 +26,24 @@ low-bits-requires : tie.Need-low-bits-requires
 low-bits-requires c κs = search needs
 
 returns : tie.Need-returns
-unfolding putInto _>>_ need
-returns c = rw (c .before .before .if1 .taken, lt-ltb (cellKind (c .before .before .before .before .before .args .cells .now) (c .before .before .before .before .before .args .c)) 3 (c .before .if2 .taken), c .low-bits .ensures)
+unfolding putInto caseOf _>>_ need
+returns c = rw (c .before .before .match .keys1, lt-ltb (kind (c .before .before .before)) 3 (c .before .if1 .taken), c .low-bits .ensures)
 
 returns-2 : tie.Need-returns-2
-unfolding putInto _>>_ need
-returns-2 c = rw (c .before .if1 .taken, le-ltb (cellKind (c .before .before .before .before .args .cells .now) (c .before .before .before .before .args .c)) 3 (c .if2 .left))
+unfolding putInto caseOf _>>_ need
+returns-2 c = rw (c .before .match .keys2, eq-eqb (kind (c .before .before)) 3 (c .if2 .taken))
 
 returns-3 : tie.Need-returns-3
-unfolding putInto _>>_ need
-returns-3 c = rw (ne-eqb (c .before .before .before .before .before .args .s .kind) 4 (c .before .before .if1 .left), c .before .if3 .taken, eq-eqb (cellKind (c .before .before .before .before .before .args .cells .now) (c .before .before .before .before .before .args .c)) 3 (c .if4 .taken))
+unfolding putInto caseOf _>>_ need
+returns-3 c = rw (c .before .match .keys1, le-ltb (kind (c .before .before)) 3 (c .if1 .left))
 
 returns-4 : tie.Need-returns-4
-unfolding putInto _>>_ need
-returns-4 c = rw (ne-eqb (c .before .before .before .before .before .args .s .kind) 4 (c .before .before .if1 .left), c .before .if3 .taken, ne-eqb (cellKind (c .before .before .before .before .before .args .cells .now) (c .before .before .before .before .before .args .c)) 3 (c .if4 .left))
+unfolding putInto caseOf _>>_ need
+returns-4 c = rw (c .before .match .keys2, ne-eqb (kind (c .before .before)) 3 (c .if2 .left))
 
 returns-5 : tie.Need-returns-5
-unfolding putInto _>>_ need
-returns-5 c = rw (ne-eqb (c .before .before .before .before .args .s .kind) 4 (c .before .if1 .left), ne-eqb (c .before .before .before .before .args .s .kind) 5 (c .if3 .left))
+unfolding putInto
+returns-5 c = let a = c .before .before .before .args in other-arm (literals (a .cells .now) (a .c) (a .s .word)) (copied (a .c) (a .s)) _ (c .match .rest)
 
 pub put-into-spec : {M : Type 1} → statement M
 put-into-spec =

@@ -1,12 +1,36 @@
+use mathlib.Core.Path.{_≡_}
 use borrow.Author.Needs.{needs}
-use Rattle.tables.specs.Outcome.{_>>=_, seen}
-use Rattle.operands.specs.Cells.{readOutcome, offsetOutcome}
-use Rattle.operands.specs.Address.{indexedOutcome}
+use Rattle.tables.specs.Outcome.{ok, _>>=_, seen}
+use Rattle.operands.specs.Cells.{sourceOf, offsetOf, readOutcome, offsetOutcome}
+use Rattle.operands.specs.Address.{indexedOf, indexedOutcome}
 use Rattle.operands.proofs.AddressLaws.{indexed-within}
 use Rattle.operands.proofs.Reaches.{in-cells}
 use Rattle.machine.specs.Families.{storeOf}
 use Rattle.machine.proofs.family.store.Statement.{statement}
 use Rattle.machine.proofs.family.store.Tie as tie
+
+-- ---- the places: the offset and the source were read, the offset reaches a cell
+
+abbrev entry : tie.After-i → tie.Start
+entry i = i .before .before .before .before .before
+
+abbrev offset-of : tie.After-s → tie.After-i
+offset-of s = s .before .before .before .before
+
+abbrev source-of : tie.After-c → tie.After-s
+source-of c = c .before .before .before .before
+
+offset : (i : tie.After-i) → let a = entry i .args in offsetOf (a .cells .now) (a .a .second) ≡ ok (i .i .given .0 .0)
+offset i = seen offsetOutcome (i .before .before .read-offset .ensures) (i .i .given .1)
+
+source : (s : tie.After-s) → let a = entry (offset-of s) .args in sourceOf (a .cells .now) (a .x) (a .a .source) ≡ ok (s .s .given .0 .0)
+source s = seen readOutcome (s .before .before .read-source .ensures) (s .s .given .1)
+
+reached : (c : tie.After-c)
+    → let i = offset-of (source-of c) in let a = entry i .args in indexedOf (a .regions .now) (a .n .first) (i .i .given .0 .0) ≡ ok (c .c .given .0 .0)
+reached c = seen indexedOutcome (c .before .before .index-cell .ensures) (c .c .given .1)
+
+-- ---- the needs
 
 read-offset-requires : tie.Need-read-offset-requires
 read-offset-requires c κs = search needs
@@ -22,7 +46,7 @@ unfolding storeOf _>>=_
 returns c = rw (seen offsetOutcome (c .before .before .read-offset .ensures) (c .enum-told .given .1))
 
 read-source-requires : tie.Need-read-source-requires
-read-source-requires c κs = search needs
+read-source-requires c κs = entry (c .before) .pre .source
 
 enum-known-s : tie.Need-enum-known-s
 enum-known-s c = search needs
@@ -32,10 +56,10 @@ enum-told-2 c = search needs
 
 returns-2 : tie.Need-returns-2
 unfolding storeOf _>>=_
-returns-2 c = rw (seen offsetOutcome (c .before .before .before .before .before .before .read-offset .ensures) (c .before .before .before .before .i .given .1), seen readOutcome (c .before .before .read-source .ensures) (c .enum-told2 .given .1))
+returns-2 c = rw (offset (c .before .before .before .before), seen readOutcome (c .before .before .read-source .ensures) (c .enum-told2 .given .1))
 
 index-cell-requires : tie.Need-index-cell-requires
-index-cell-requires c κs = (c .before .before .before .before .before .before .before .before .before .before .pre .region, c .before .before .before .before .before .before .before .before .before .before .pre .layout .few)
+index-cell-requires c κs = let pre = entry (offset-of (c .before)) .pre in (pre .region, pre .layout .laid)
 
 enum-known-c : tie.Need-enum-known-c
 enum-known-c c = search needs
@@ -45,14 +69,22 @@ enum-told-3 c = search needs
 
 returns-3 : tie.Need-returns-3
 unfolding storeOf _>>=_
-returns-3 c = rw (seen offsetOutcome (c .before .before .before .before .before .before .before .before .before .before .read-offset .ensures) (c .before .before .before .before .before .before .before .before .i .given .1), seen readOutcome (c .before .before .before .before .before .before .read-source .ensures) (c .before .before .before .before .s .given .1), seen indexedOutcome (c .before .before .index-cell .ensures) (c .enum-told3 .given .1))
+returns-3 c =
+    let s = c .before .before .before .before in
+    rw (offset (offset-of s), source s, seen indexedOutcome (c .before .before .index-cell .ensures) (c .enum-told3 .given .1))
 
 put-into-requires : tie.Need-put-into-requires
-put-into-requires c κs = in-cells (c .before .before .before .before .before .before .before .before .before .before .before .before .before .before .pre .layout) (indexed-within (c .before .before .before .before .before .before .before .before .before .before .before .before .before .before .args .regions .now) (c .before .before .before .before .before .before .before .before .before .before .before .before .before .before .args .n .first) (c .before .before .before .before .before .before .before .before .before .i .given .0 .0) (c .before .before .before .before .before .before .before .before .before .before .before .before .before .before .pre .region) (seen indexedOutcome (c .before .before .before .index-cell .ensures) (c .before .c .given .1)))
+put-into-requires c κs =
+    let i = offset-of (source-of (c .before)) in
+    let s = entry i in
+    in-cells (s .pre .layout) (indexed-within (s .pre .layout .laid) (s .args .n .first) (i .i .given .0 .0) (s .pre .region) (reached (c .before)))
 
 returns-4 : tie.Need-returns-4
 unfolding storeOf _>>=_
-returns-4 c = rw (seen offsetOutcome (c .before .before .before .before .before .before .before .before .before .before .before .before .read-offset .ensures) (c .before .before .before .before .before .before .before .before .before .before .i .given .1), seen readOutcome (c .before .before .before .before .before .before .before .before .read-source .ensures) (c .before .before .before .before .before .before .s .given .1), seen indexedOutcome (c .before .before .before .before .index-cell .ensures) (c .before .before .c .given .1)) (c .put-into .ensures)
+returns-4 c =
+    let r = c .before .before in
+    let s = source-of r in
+    rw (offset (offset-of s), source s, reached r) (c .put-into .ensures)
 
 pub store-spec : {M : Type 1} → statement M
 store-spec =

@@ -1,11 +1,21 @@
+use mathlib.Core.Path.{_≡_, sym, _∙_}
 use borrow.Author.Needs.{needs}
-use mathlib.Core.Path.{sym, _∙_}
 use borrow.Author.Tests.{not-true, not-false}
-use Rattle.tables.specs.Outcome.{_>>=_, _>>_, need, seen}
-use Rattle.operands.specs.Cells.{readOutcome}
+use Rattle.tables.specs.Outcome.{ok, _>>=_, _>>_, need, seen}
+use Rattle.operands.specs.Cells.{readOf, readOutcome}
 use Rattle.machine.specs.Families.{unaryOf}
 use Rattle.machine.proofs.family.unary.Statement.{statement}
 use Rattle.machine.proofs.family.unary.Tie as tie
+
+-- ---- the place: the operand was read
+
+abbrev entry : tie.After-d → tie.Start
+entry d = d .before .before .before .before
+
+operand : (d : tie.After-d) → let a = entry d .args in readOf (a .cells .now) (a .a .first) ≡ ok (d .d .given .0 .0)
+operand d = seen readOutcome (d .before .before .read-cell .ensures) (d .d .given .1)
+
+-- ---- the needs
 
 read-cell-requires : tie.Need-read-cell-requires
 read-cell-requires c κs = search needs
@@ -25,14 +35,16 @@ unary-kinds-requires c κs = search needs
 
 returns-2 : tie.Need-returns-2
 unfolding unaryOf _>>=_ _>>_ need
-returns-2 c = rw (seen readOutcome (c .before .before .before .before .before .read-cell .ensures) (c .before .before .before .d .given .1), sym (c .before .unary-kinds .ensures) ∙ not-true _ (c .if1 .taken))
+returns-2 c = rw (operand (c .before .before .before), sym (c .before .unary-kinds .ensures) ∙ not-true _ (c .if1 .taken))
 
 unary-result-requires : tie.Need-unary-result-requires
 unary-result-requires c κs = search needs
 
 returns-3 : tie.Need-returns-3
 unfolding unaryOf _>>=_ _>>_ need
-returns-3 c = rw (seen readOutcome (c .before .before .before .before .before .before .read-cell .ensures) (c .before .before .before .before .d .given .1), sym (c .before .before .unary-kinds .ensures) ∙ not-false _ (c .before .if1 .left), c .unary-result .ensures)
+returns-3 c =
+    let k = c .before in
+    rw (operand (k .before .before .before), sym (k .before .unary-kinds .ensures) ∙ not-false _ (k .if1 .left), c .unary-result .ensures)
 
 pub unary-spec : {M : Type 1} → statement M
 unary-spec =

@@ -5,23 +5,20 @@ use Rattle.operands.specs.Cells.{readOf}
 use Rattle.operands.proofs.cell.read_cell.Statement.{statement}
 use Rattle.operands.proofs.cell.read_cell.Tie as tie
 
+mul-at : tie.Need-mul-at
+mul-at c = search needs
+
 mul-kind : tie.Need-mul-kind
 mul-kind c = search needs
-
-mul-kind-2 : tie.Need-mul-kind-2
-mul-kind-2 c = search needs
 
 shared-slice-read-kind : tie.Need-shared-slice-read-kind
 shared-slice-read-kind c = search needs
 
-mul-word : tie.Need-mul-word
-mul-word c = search needs
-
 add-word : tie.Need-add-word
 add-word c = search needs
 
-mul-word-2 : tie.Need-mul-word-2
-mul-word-2 c = search needs
+mul-word : tie.Need-mul-word
+mul-word c = search needs
 
 shared-slice-read-word : tie.Need-shared-slice-read-word
 shared-slice-read-word c = search needs
@@ -41,12 +38,11 @@ pub read-cell-spec : {M : Type 1} → statement M
 read-cell-spec =
     tie.close
     (tie.spec
+    mul-at
     mul-kind
-    mul-kind-2
     shared-slice-read-kind
-    mul-word
     add-word
-    mul-word-2
+    mul-word
     shared-slice-read-word
     fits-requires
     returns

@@ -47,7 +47,7 @@ write-row-requires c κs =
     let in-loop = c .before .before in
     let at = in-loop .before .loop in
     let replying = entry (in-loop .before) .pre .0 in
-    (record { few = replying .layout .few; wide = at .inv .1 ∙ replying .layout .wide }, replying .row (at .k) (in-loop .loop-test .taken), omega arith)
+    (record { laid = replying .layout .laid; wide = at .inv .1 ∙ replying .layout .wide }, replying .row (at .k) (in-loop .loop-test .taken), omega arith)
 
 add-k : tie.Need-add-k Inv-loop μ-loop
 add-k c = omega arith

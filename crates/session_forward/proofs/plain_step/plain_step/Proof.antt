@@ -47,7 +47,7 @@ step-one-requires : tie.Need-step-one-requires
 step-one-requires c κs =
     let at = c .before .before .before in
     let s = entry (one at) in
-    (s .pre .1, one-there (s .pre .0 .layout) (writes-within (s .args .regions .now) (s .args .cells .now) (s .args .x) (s .args .reply .now) (does (one at) (at .outcome2 .given .1))))
+    (s .pre .1, one-there (s .pre .0 .layout) (writes-within (s .pre .0 .layout .laid) (s .args .cells .now) (s .args .x) (s .args .reply .now) (does (one at) (at .outcome2 .given .1))))
 
 enum-known-outcome-3 : tie.Need-enum-known-outcome-3
 enum-known-outcome-3 c = search needs
@@ -56,7 +56,7 @@ step-two-requires : tie.Need-step-two-requires
 step-two-requires c κs =
     let at = c .before .before .before in
     let s = entry (two at) in
-    let h = two-there (s .pre .0 .layout) (writes-within (s .args .regions .now) (s .args .cells .now) (s .args .x) (s .args .reply .now) (does (two at) (at .outcome3 .given .1))) in (s .pre .1, h .0, h .1)
+    let h = two-there (s .pre .0 .layout) (writes-within (s .pre .0 .layout .laid) (s .args .cells .now) (s .args .x) (s .args .reply .now) (does (two at) (at .outcome3 .given .1))) in (s .pre .1, h .0, h .1)
 
 same-length : tie.Need-same-length
 same-length c = search needs

@@ -19,7 +19,7 @@ loop-holds : tie.Need-loop-holds Inv-loop μ-loop
 loop-holds c = (omega arith, refl, zeroed-none _ _)
 
 zero-region-requires : tie.Need-zero-region-requires Inv-loop μ-loop
-zero-region-requires c κs = (c .before .loop-test .taken, record { few = c .before .before .before .before .before .pre .few; wide = c .before .before .loop .inv .1 ∙ c .before .before .before .before .before .pre .wide }, c .before .before .loop .inv .2)
+zero-region-requires c κs = (c .before .loop-test .taken, record { laid = c .before .before .before .before .before .pre .laid; wide = c .before .before .loop .inv .1 ∙ c .before .before .before .before .before .pre .wide }, c .before .before .loop .inv .2)
 
 add-r : tie.Need-add-r Inv-loop μ-loop
 add-r c = search needs
