@@ -65,7 +65,7 @@ module _ (t : Tables) (memory journal : List ℕ) (calls : List Call) where
     pub kinds : Typed (t .regions) (take (cellWidth * cellCount (t .regions)) (ending .memory))
     -- "No call in it met an operand without a rule"
     pub ruled : Each Ruled (answers t calls session)
-    -- ", and a CALL changed only cells of regions in its write set."
+    -- "and a CALL changed only cells of regions in its write set."
     pub framed : Framed t calls session
     -- "Each call's answer, refusal number and position included, is the one that document 01's plain machine gives for the same list; so forward and back are refused exactly when 01 says."
     pub answers-are : answers t calls session ≡ replayAnswers machine calls fresh
