@@ -21,9 +21,11 @@ fn write_short(word: &[u8]) {
         real_text::decimal::Reading::Word(bits) => {
             io::print_hex(STDOUT_FILENO, bits, 16);
             io::write_all(STDOUT_FILENO, b" ");
-            write_real(bits)
+            write_real(bits);
         }
-        _ => io::write_all(STDOUT_FILENO, b"no short decimal\n"),
+        _ => {
+            io::write_all(STDOUT_FILENO, b"no short decimal\n");
+        }
     }
 }
 
