@@ -71,8 +71,8 @@ pub fn set_table(
     let first = which * ROOM;
     let all = token_at(text, at);
     let given = token_at(text, all.next);
-    let count = given.value as usize;
-    let end = least(all.value as usize, ROOM);
+    let count = given.number() as usize;
+    let end = least(all.number() as usize, ROOM);
     let words = &mut tables[first..first + ROOM];
     let next = fill(text, given.next, words, count);
     repeat(words, count, end);
@@ -92,9 +92,9 @@ pub fn set_lent(
 {
     let all = token_at(text, at);
     let given = token_at(text, all.next);
-    let end = least(all.value as usize, words.len());
+    let end = least(all.number() as usize, words.len());
     let lent = &mut words[0..end];
     mark(lent);
     lengths[which] = end as u64;
-    fill(text, given.next, lent, given.value as usize)
+    fill(text, given.next, lent, given.number() as usize)
 }

@@ -18,8 +18,6 @@ use script::fill::fill;
 use script::fill::put;
 use script::line::line_at;
 use script::line::part;
-use script::token::END;
-use script::token::sign_of;
 use script::token::token_at;
 
 fn heading(text: &[u8], at: usize) -> usize {
@@ -32,7 +30,7 @@ fn heading(text: &[u8], at: usize) -> usize {
 fn plant(text: &[u8], at: usize, words: &mut [u64]) -> usize {
     let index = token_at(text, at);
     let word = token_at(text, index.next);
-    put(words, index.value as usize, word.value);
+    put(words, index.number() as usize, word.number());
     word.next
 }
 
@@ -74,11 +72,11 @@ pub fn play(text: &[u8]) {
     let mut turns = text.len();
     while turns > 0 {
         let token = token_at(text, at);
-        if token.kind == END {
+        if token.is_end() {
             return;
         }
         at = command(
-            sign_of(token),
+            token.sign(),
             text,
             token.next,
             &mut tables,

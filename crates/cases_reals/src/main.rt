@@ -1,7 +1,6 @@
 // Reads standard input by lines. A word 0x.. is written as a REAL's text; any other word is read as a short decimal, and its word and text are written.
 use libc::STDIN_FILENO;
 use libc::STDOUT_FILENO;
-use real_text::decimal::READ;
 use real_text::decimal::read_decimal;
 use real_text::text::text_of;
 use script::line::line_at;
@@ -18,22 +17,28 @@ fn write_real(word: u64) {
 
 fn write_short(word: &[u8]) {
     let reading = read_decimal(word);
-    if reading.kind != READ {
-        io::write_all(STDOUT_FILENO, b"no short decimal\n");
-        return;
+    match reading {
+        real_text::decimal::Reading::Word(bits) => {
+            io::print_hex(STDOUT_FILENO, bits, 16);
+            io::write_all(STDOUT_FILENO, b" ");
+            write_real(bits);
+        }
+        _ => {
+            io::write_all(STDOUT_FILENO, b"no short decimal\n");
+        }
     }
-    io::print_hex(STDOUT_FILENO, reading.word, 16);
-    io::write_all(STDOUT_FILENO, b" ");
-    write_real(reading.word);
 }
 
 fn write_word(word: &[u8]) {
-    let reading = read_number(word);
-    if (reading.kind == READ) & (word.len() == 18) {
-        write_real(reading.word);
+    if word.len() != 18 {
+        write_short(word);
         return;
     }
-    write_short(word);
+    let reading = read_number(word);
+    match reading {
+        script::number::Reading::Number(bits) => write_real(bits),
+        _ => write_short(word),
+    }
 }
 
 fn each_line(text: &[u8]) {

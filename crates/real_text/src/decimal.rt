@@ -3,16 +3,11 @@ use words::real::divide;
 use words::real::negate;
 use words::real::pattern_of;
 
-// What a text was read as: the word, no decimal, or one that has too many digits.
-pub const READ: u8 = 0;
-
-pub const NO_DECIMAL: u8 = 1;
-
-pub const TOO_LONG: u8 = 2;
-
-pub struct Reading {
-    pub kind: u8,
-    pub word: u64,
+// What a text is read as: a REAL word, none, or one that has too many digits.
+pub enum Reading {
+    Word(u64),
+    NoDecimal,
+    TooLong,
 }
 
 const MOST_DIGITS: u64 = 15;
@@ -102,20 +97,11 @@ pub fn read_decimal(text: &[u8]) -> Reading {
     let negative = starts_negative(text);
     let seen = see_all(text, if negative { 1 } else { 0 });
     if seen.strange | ((seen.points > 1) | (seen.digits == 0)) {
-        return Reading {
-            kind: NO_DECIMAL,
-            word: 0,
-        };
+        return Reading::NoDecimal;
     }
     if seen.digits > MOST_DIGITS {
-        return Reading {
-            kind: TOO_LONG,
-            word: 0,
-        };
+        return Reading::TooLong;
     }
     let size = quotient_of(seen);
-    Reading {
-        kind: READ,
-        word: if negative { negate(size) } else { size },
-    }
+    Reading::Word(if negative { negate(size) } else { size })
 }

@@ -1,9 +1,6 @@
 // The shortest digits that read back to the same binary64, and of these the nearest: Steele and White's free-format algorithm, in exact numbers.
 use crate::limbs::ABOVE;
 use crate::limbs::BELOW;
-use crate::limbs::EQUAL;
-use crate::limbs::GREATER;
-use crate::limbs::LESS;
 use crate::limbs::SCALE;
 use crate::limbs::VALUE;
 use crate::limbs::WORK;
@@ -55,8 +52,7 @@ fn set_up(work: &mut [u64; WORK], bits: u64) -> bool {
 
 // Whether the value with what lies above reaches the scale: the digits are at an end, or the point is too far left.
 fn reaches(work: &[u64; WORK], even: bool) -> bool {
-    let told = compare_sum(work, ABOVE);
-    (told == GREATER) | (even & (told == EQUAL))
+    compare_sum(work, ABOVE).is_greater(even)
 }
 
 fn tenfold(work: &mut [u64; WORK]) {
@@ -95,7 +91,7 @@ fn scale_down(work: &mut [u64; WORK], even: bool) -> usize {
 fn divide(work: &mut [u64; WORK]) -> u8 {
     let mut digit = 0;
     while digit < 9 {
-        if compare(work, SCALE) == LESS {
+        if compare(work, SCALE).is_less(false) {
             break;
         }
         subtract_scale(work);
@@ -106,8 +102,7 @@ fn divide(work: &mut [u64; WORK]) -> u8 {
 
 // What is left of the value reads back as the pattern with the digits so far.
 fn low_enough(work: &[u64; WORK], even: bool) -> bool {
-    let told = compare(work, BELOW);
-    (told == LESS) | (even & (told == EQUAL))
+    compare(work, BELOW).is_less(even)
 }
 
 // Whether the last digit is nearer one up; halfway, where it is odd.
@@ -115,8 +110,7 @@ fn round_up(work: &[u64; WORK], digit: u8, low: bool) -> bool {
     if !low {
         return true;
     }
-    let told = compare_sum(work, VALUE);
-    (told == GREATER) | ((told == EQUAL) & (digit % 2 == 1))
+    compare_sum(work, VALUE).is_greater(digit % 2 == 1)
 }
 
 // The last digit, where both it and the next may read back.

@@ -15,11 +15,29 @@ pub const BELOW: usize = 120;
 const BASE: u64 = 0x1_0000_0000;
 
 // How two numbers compare.
-pub const LESS: u8 = 0;
+pub enum Order {
+    Less,
+    Equal,
+    Greater,
+}
 
-pub const EQUAL: u8 = 1;
+impl Order {
+    pub fn is_less(self, or_equal: bool) -> bool {
+        match self {
+            Order::Less => true,
+            Order::Equal => or_equal,
+            Order::Greater => false,
+        }
+    }
 
-pub const GREATER: u8 = 2;
+    pub fn is_greater(self, or_equal: bool) -> bool {
+        match self {
+            Order::Less => false,
+            Order::Equal => or_equal,
+            Order::Greater => true,
+        }
+    }
+}
 
 fn limb(work: &[u64; WORK], first: usize, i: usize) -> u64 {
     let place = std::num::wrapping_add_usize(first, i);
@@ -70,19 +88,19 @@ pub fn subtract_scale(work: &mut [u64; WORK]) {
 }
 
 // What a lower limb said stands where the limbs are equal.
-fn compare_limbs(a: u64, b: u64, lower: u8) -> u8 {
+fn compare_limbs(a: u64, b: u64, lower: Order) -> Order {
     if a < b {
-        LESS
-    } else if b < a {
-        GREATER
-    } else {
-        lower
+        return Order::Less;
     }
+    if b < a {
+        return Order::Greater;
+    }
+    lower
 }
 
 // How the value plus the number at `first` compares with the scale.
-pub fn compare_sum(work: &[u64; WORK], first: usize) -> u8 {
-    let mut told = EQUAL;
+pub fn compare_sum(work: &[u64; WORK], first: usize) -> Order {
+    let mut told = Order::Equal;
     let mut carry = 0;
     let mut i = 0;
     while i < LIMBS {
@@ -95,8 +113,8 @@ pub fn compare_sum(work: &[u64; WORK], first: usize) -> u8 {
 }
 
 // How the value compares with the number at `first`.
-pub fn compare(work: &[u64; WORK], first: usize) -> u8 {
-    let mut told = EQUAL;
+pub fn compare(work: &[u64; WORK], first: usize) -> Order {
+    let mut told = Order::Equal;
     let mut i = 0;
     while i < LIMBS {
         told = compare_limbs(limb(work, VALUE, i), limb(work, first, i), told);

@@ -1,5 +1,5 @@
 // Numbers in a row.
-use crate::token::NUMBER;
+use crate::token::Found;
 use crate::token::token_at;
 
 // A word at a place that the slice has.
@@ -15,12 +15,13 @@ pub fn fill(text: &[u8], at: usize, out: &mut [u64], count: usize) -> usize {
     let mut place = at;
     let mut i = 0;
     while i < count {
-        let next = token_at(text, place);
-        if next.kind != NUMBER {
+        let token = token_at(text, place);
+        let found = token.found;
+        let Found::Number(n) = found else {
             break;
-        }
-        put(out, i, next.value);
-        place = next.next;
+        };
+        put(out, i, n);
+        place = token.next;
         i += 1;
     }
     place

@@ -1,96 +1,73 @@
 // A word of a text as a number: decimal, with a minus as two's complement, or hexadecimal after `0x`.
+ghost use Prim.Native.Nat.{_≤_};
 use crate::line::byte_at;
-use crate::token::NUMBER;
-use crate::token::TOO_LARGE;
+use crate::token::Found;
 use crate::token::token_at;
+use crate::token::wide;
 
-// What a word was read as: the number, no number, or one that 64 bits do not hold.
-pub const READ: u8 = 0;
-
-pub const NO_NUMBER: u8 = 1;
-
-pub const PAST: u8 = 2;
-
-pub struct Reading {
-    pub kind: u8,
-    pub word: u64,
+// What a word is read as: a number, none, or one that 64 bits do not hold.
+pub enum Reading {
+    Number(u64),
+    NoNumber,
+    Past,
 }
 
 const HALF: u64 = 0x8000_0000_0000_0000;
-
-fn wide(byte: u8) -> u64 {
-    byte as u64
-}
-
-fn failed(kind: u8) -> Reading {
-    Reading { kind, word: 0 }
-}
 
 // The decimal from `at` on, which ends with the text.
 fn decimal(text: &[u8], at: usize) -> Reading {
     let token = token_at(text, at);
     if token.next != text.len() {
-        return failed(NO_NUMBER);
+        return Reading::NoNumber;
     }
-    if token.kind == TOO_LARGE {
-        return failed(PAST);
-    }
-    if token.kind != NUMBER {
-        return failed(NO_NUMBER);
-    }
-    Reading {
-        kind: READ,
-        word: token.value,
+    let found = token.found;
+    match found {
+        Found::Number(n) => Reading::Number(n),
+        Found::TooLarge => Reading::Past,
+        _ => Reading::NoNumber,
     }
 }
 
 fn negative(text: &[u8]) -> Reading {
     let size = decimal(text, 1);
-    if size.kind != READ {
+    let Reading::Number(n) = size else {
         return size;
+    };
+    if n > HALF {
+        return Reading::Past;
     }
-    if size.word > HALF {
-        return failed(PAST);
-    }
-    Reading {
-        kind: READ,
-        word: std::num::wrapping_sub_u64(0, size.word),
-    }
+    Reading::Number(std::num::wrapping_sub_u64(0, n))
 }
 
-// A hexadecimal digit's value, or 16 for another byte.
-fn digit(byte: u8) -> u64 {
-    match byte {
-        b'0'..=b'9' => wide(byte - b'0'),
-        b'a'..=b'f' => wide(byte - b'a' + 10),
-        b'A'..=b'F' => wide(byte - b'A' + 10),
-        _ => 16,
+// The number with one more hexadecimal digit.
+fn longer(n: u64, digit: u64) -> Reading
+    requires { ⌜ digit ≤ 15 ⌝ }
+{
+    if n >= 0x1000_0000_0000_0000 {
+        return Reading::Past;
     }
+    Reading::Number(n * 16 + digit)
 }
 
-// The number with one more digit, where both are good.
-fn append(so_far: Reading, value: u64) -> Reading {
-    if so_far.kind != READ {
+// What is read so far and one byte more.
+fn append(so_far: Reading, byte: u8) -> Reading {
+    let Reading::Number(n) = so_far else {
         return so_far;
-    }
-    if value > 15 {
-        return failed(NO_NUMBER);
-    }
-    if so_far.word >= 0x1000_0000_0000_0000 {
-        return failed(PAST);
-    }
-    Reading {
-        kind: READ,
-        word: so_far.word * 16 + value,
+    };
+    match byte {
+        b'0'..=b'9' => longer(n, wide(byte - b'0')),
+        b'a'..=b'f' => longer(n, wide(byte - b'a' + 10)),
+        b'A'..=b'F' => longer(n, wide(byte - b'A' + 10)),
+        _ => Reading::NoNumber,
     }
 }
 
 // The hexadecimal digits from the third byte on.
 fn hexadecimal(text: &[u8]) -> Reading {
-    let mut so_far = failed(READ);
+    let mut so_far = Reading::Number(0);
     let mut i = 2;
     while i < text.len() {
-        so_far = append(so_far, digit(byte_at(text, i)));
+        so_far = append(so_far, byte_at(text, i));
         i += 1;
     }
     so_far

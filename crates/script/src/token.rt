@@ -3,29 +3,51 @@ ghost use mathlib.Core.Path.{_≡_};
 ghost use Prim.Native.Nat.{_≤_, _<_};
 ghost use lib.ListN.{length};
 
-// What a token is: the text's end, a decimal number, a number past 2^64 - 1, or any other byte.
-pub const END: u8 = 0;
+// The text's end, a decimal number, a number past 2^64 - 1, or any other byte.
+pub enum Found {
+    End,
+    Number(u64),
+    TooLarge,
+    Sign(u8),
+}
 
-pub const NUMBER: u8 = 1;
-
-pub const TOO_LARGE: u8 = 2;
-
-pub const SIGN: u8 = 3;
-
-// The value is the number, or the sign's byte, else 0; next is the place after the token.
+// A token, and the place after it.
 pub struct Token {
-    pub kind: u8,
-    pub value: u64,
+    pub found: Found,
     pub next: usize,
 }
 
-// A number's kind and value, as far as it is read.
-struct Digits {
-    kind: u8,
-    value: u64,
+impl Token {
+    pub fn is_end(self) -> bool {
+        let found = self.found;
+        match found {
+            Found::End => true,
+            _ => false,
+        }
+    }
+
+    // The number; 0 for a token that is none.
+    pub fn number(self) -> u64 {
+        let found = self.found;
+        match found {
+            Found::Number(n) => n,
+            _ => 0,
+        }
+    }
+
+    // The sign's byte; 0 for a token that is none.
+    pub fn sign(self) -> u8 {
+        let found = self.found;
+        match found {
+            Found::Sign(byte) => byte,
+            _ => 0,
+        }
+    }
 }
 
-fn wide(byte: u8) -> u64 {
+pub fn wide(byte: u8) -> u64
+    ensures { λ r. ⌜ r ≡ byte ⌝ }
+{
     byte as u64
 }
 
@@ -61,22 +83,15 @@ fn skip(text: &[u8], at: usize) -> usize
 }
 
 // A number with one more digit. Digits are the bytes 48 to 57.
-fn append(number: Digits, byte: u8) -> Digits {
-    let digit = wide(byte) % 16;
-    let value = number.value;
-    if value > (0xFFFFFFFFFFFFFFFF - digit) / 10 {
-        return Digits {
-            kind: TOO_LARGE,
-            value: 0,
-        };
-    }
-    if number.kind == TOO_LARGE {
+fn append(number: Found, byte: u8) -> Found {
+    let Found::Number(value) = number else {
         return number;
+    };
+    let digit = wide(byte) % 16;
+    if value > (0xFFFFFFFFFFFFFFFF - digit) / 10 {
+        return Found::TooLarge;
     }
-    Digits {
-        kind: NUMBER,
-        value: value * 10 + digit,
-    }
+    Found::Number(value * 10 + digit)
 }
 
 // The number whose first digit stands at `at`: all digits up to another byte or the text's end.
@@ -85,39 +100,28 @@ fn number_at(text: &[u8], at: usize) -> Token
     ensures within { λ r. ⌜ r .next ≤ length (now (text .entry)) ⌝ }
     ensures after { λ r. ⌜ at < r .next ⌝ }
 {
-    let mut digits = append(
-        Digits {
-            kind: NUMBER,
-            value: 0,
-        },
-        text[at],
-    );
+    let mut found = append(Found::Number(0), text[at]);
     let mut i = at + 1;
     while i < text.len() {
         let byte = text[i];
         if !is_digit(byte) {
             break;
         }
-        digits = append(digits, byte);
+        found = append(found, byte);
         i += 1;
     }
-    Token {
-        kind: digits.kind,
-        value: digits.value,
-        next: i,
-    }
+    Token { found, next: i }
 }
 
 // The first token from `at` on.
 pub fn token_at(text: &[u8], at: usize) -> Token
     ensures within { λ r. ⌜ r .next ≤ length (now (text .entry)) ⌝ }
-    ensures after { λ r. ⌜ ((r .kind ≡ 0 → ⊥) → at < r .next) ⌝ }
+    ensures after { λ r. ⌜ ((r .found ≡ Found.End → ⊥) → at < r .next) ⌝ }
 {
     let start = skip(text, at);
     if start >= text.len() {
         return Token {
-            kind: END,
-            value: 0,
+            found: Found::End,
             next: start,
         };
     }
@@ -126,17 +130,7 @@ pub fn token_at(text: &[u8], at: usize) -> Token
         return number_at(text, start);
     }
     Token {
-        kind: SIGN,
-        value: wide(byte),
+        found: Found::Sign(byte),
         next: start + 1,
-    }
-}
-
-// The sign's byte, or 0 for a token that is none.
-pub fn sign_of(token: Token) -> u8 {
-    if token.kind == SIGN {
-        (token.value % 256) as u8
-    } else {
-        0
     }
 }

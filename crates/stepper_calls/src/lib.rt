@@ -13,10 +13,12 @@ use script::line::least;
 use session::answer::OpenAnswer;
 use session::answer::StepAnswer;
 use stepper_tables::file::ROOM;
+use stepper_tables::file::TABLES;
+use stepper_tables::heading::Table;
 
 // The words of one of the six tables.
-pub fn table(tables: &[u64], which: usize, lengths: [usize; 6]) -> &[u64] {
-    let number = which % 6;
+pub fn table(tables: &[u64], which: Table, lengths: [usize; TABLES]) -> &[u64] {
+    let number = which.number();
     let first = least(number * ROOM, tables.len());
     let room = least(ROOM, tables.len() - first);
     let end = first + least(lengths[number], room);
@@ -29,30 +31,30 @@ pub fn front(words: &[u64], length: usize) -> &[u64] {
     &words[0..end]
 }
 
-pub fn check_tables(tables: &[u64], lengths: [usize; 6]) -> CheckAnswer {
+pub fn check_tables(tables: &[u64], lengths: [usize; TABLES]) -> CheckAnswer {
     check(
-        table(tables, 0, lengths),
-        table(tables, 1, lengths),
-        table(tables, 2, lengths),
-        table(tables, 3, lengths),
-        table(tables, 4, lengths),
-        table(tables, 5, lengths),
+        table(tables, Table::Regions, lengths),
+        table(tables, Table::Externs, lengths),
+        table(tables, Table::Parameters, lengths),
+        table(tables, Table::Nodes, lengths),
+        table(tables, Table::Arguments, lengths),
+        table(tables, Table::Instructions, lengths),
     )
 }
 
 pub fn resolve_row(
     tables: &[u64],
-    lengths: [usize; 6],
+    lengths: [usize; TABLES],
     row: usize,
     rows: &mut [u64],
 ) -> ResolveAnswer {
     resolve(
-        table(tables, 0, lengths),
-        table(tables, 1, lengths),
-        table(tables, 2, lengths),
-        table(tables, 3, lengths),
-        table(tables, 4, lengths),
-        table(tables, 5, lengths),
+        table(tables, Table::Regions, lengths),
+        table(tables, Table::Externs, lengths),
+        table(tables, Table::Parameters, lengths),
+        table(tables, Table::Nodes, lengths),
+        table(tables, Table::Arguments, lengths),
+        table(tables, Table::Instructions, lengths),
         row,
         rows,
     )
@@ -60,18 +62,18 @@ pub fn resolve_row(
 
 pub fn access_row(
     tables: &[u64],
-    lengths: [usize; 6],
+    lengths: [usize; TABLES],
     row: usize,
     reads: &mut [u64],
     writes: &mut [u64],
 ) -> AccessAnswer {
     access(
-        table(tables, 0, lengths),
-        table(tables, 1, lengths),
-        table(tables, 2, lengths),
-        table(tables, 3, lengths),
-        table(tables, 4, lengths),
-        table(tables, 5, lengths),
+        table(tables, Table::Regions, lengths),
+        table(tables, Table::Externs, lengths),
+        table(tables, Table::Parameters, lengths),
+        table(tables, Table::Nodes, lengths),
+        table(tables, Table::Arguments, lengths),
+        table(tables, Table::Instructions, lengths),
         row,
         reads,
         writes,
@@ -80,17 +82,17 @@ pub fn access_row(
 
 pub fn open_tables(
     tables: &[u64],
-    lengths: [usize; 6],
+    lengths: [usize; TABLES],
     memory: &mut [u64],
     journal: &[u64],
 ) -> OpenAnswer {
     open(
-        table(tables, 0, lengths),
-        table(tables, 1, lengths),
-        table(tables, 2, lengths),
-        table(tables, 3, lengths),
-        table(tables, 4, lengths),
-        table(tables, 5, lengths),
+        table(tables, Table::Regions, lengths),
+        table(tables, Table::Externs, lengths),
+        table(tables, Table::Parameters, lengths),
+        table(tables, Table::Nodes, lengths),
+        table(tables, Table::Arguments, lengths),
+        table(tables, Table::Instructions, lengths),
         memory,
         journal,
     )
@@ -98,19 +100,19 @@ pub fn open_tables(
 
 pub fn step_forward(
     tables: &[u64],
-    lengths: [usize; 6],
+    lengths: [usize; TABLES],
     memory: &mut [u64],
     journal: &mut [u64],
     position: Position,
     reply: &[u64],
 ) -> StepAnswer {
     forward(
-        table(tables, 0, lengths),
-        table(tables, 1, lengths),
-        table(tables, 2, lengths),
-        table(tables, 3, lengths),
-        table(tables, 4, lengths),
-        table(tables, 5, lengths),
+        table(tables, Table::Regions, lengths),
+        table(tables, Table::Externs, lengths),
+        table(tables, Table::Parameters, lengths),
+        table(tables, Table::Nodes, lengths),
+        table(tables, Table::Arguments, lengths),
+        table(tables, Table::Instructions, lengths),
         memory,
         journal,
         position,
@@ -120,18 +122,18 @@ pub fn step_forward(
 
 pub fn step_back(
     tables: &[u64],
-    lengths: [usize; 6],
+    lengths: [usize; TABLES],
     memory: &mut [u64],
     journal: &[u64],
     position: Position,
 ) -> StepAnswer {
     back(
-        table(tables, 0, lengths),
-        table(tables, 1, lengths),
-        table(tables, 2, lengths),
-        table(tables, 3, lengths),
-        table(tables, 4, lengths),
-        table(tables, 5, lengths),
+        table(tables, Table::Regions, lengths),
+        table(tables, Table::Externs, lengths),
+        table(tables, Table::Parameters, lengths),
+        table(tables, Table::Nodes, lengths),
+        table(tables, Table::Arguments, lengths),
+        table(tables, Table::Instructions, lengths),
         memory,
         journal,
         position,

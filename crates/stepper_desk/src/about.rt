@@ -1,6 +1,7 @@
 // About the current row: a CALL's resolved arguments and access sets, a frame's references.
+use crate::explain::Current;
 use crate::explain::RESOLVE_WORDS;
-use crate::explain::family_at;
+use crate::explain::row_at;
 use crate::explain::show_call;
 use crate::explain::this_row;
 use crate::state::Desk;
@@ -18,13 +19,12 @@ use stepper_screen::print::text;
 use stepper_screen::refusal::refused;
 use stepper_screen::view::View;
 use stepper_tables::file::TABLE_WORDS;
+use stepper_tables::heading::Table;
 use stepper_tables::names::NAME_WORDS;
 use stepper_tables::names::word_of;
 use tables::family::CALL;
 use tables::family::FRAME;
-use tables::rows::INSTRUCTION_WIDTH;
 use tables::rows::Instruction;
-use tables::rows::instruction_at;
 
 const SET_WORDS: usize = 1024;
 
@@ -120,20 +120,6 @@ fn show_references(
     byte(b'\n');
 }
 
-fn about_frame(
-    source: &[u8],
-    names: &[u64; NAME_WORDS],
-    view: View,
-    nodes: &[u64],
-    instructions: &[u64],
-    row: usize,
-) {
-    if row < instructions.len() / INSTRUCTION_WIDTH {
-        let x = instruction_at(instructions, row);
-        show_references(source, names, view, nodes, x);
-    }
-}
-
 fn about_call(
     source: &[u8],
     names: &[u64; NAME_WORDS],
@@ -146,26 +132,38 @@ fn about_call(
     show_access(source, names, tables, desk, row);
 }
 
-// About the current row.
+fn nothing_more() {
+    text(b"there is more to tell of a CALL and of a frame's row only\n");
+}
+
+fn about_row(
+    source: &[u8],
+    names: &[u64; NAME_WORDS],
+    tables: &[u64; TABLE_WORDS],
+    desk: Desk,
+    row: usize,
+    x: Instruction,
+) {
+    let lengths = desk.lengths;
+    let family = x.family;
+    match family {
+        CALL => about_call(source, names, tables, desk, row),
+        FRAME => {
+            let nodes = table(tables, Table::Nodes, lengths);
+            this_row(source, names, tables, desk, row);
+            show_references(source, names, desk.view, nodes, x)
+        }
+        _ => nothing_more(),
+    }
+}
+
 pub fn about(source: &[u8], names: &[u64; NAME_WORDS], tables: &[u64; TABLE_WORDS], desk: Desk) {
     let lengths = desk.lengths;
     let position = desk.position;
     let row = position.row();
-    let instructions = table(tables, 5, lengths);
-    let family = family_at(instructions, row);
-    match family {
-        CALL => about_call(source, names, tables, desk, row),
-        FRAME => {
-            this_row(source, names, tables, desk, row);
-            about_frame(
-                source,
-                names,
-                desk.view,
-                table(tables, 3, lengths),
-                instructions,
-                row,
-            )
-        }
-        _ => text(b"there is more to tell of a CALL and of a frame's row only\n"),
+    let current = row_at(table(tables, Table::Instructions, lengths), row);
+    match current {
+        Current::Row(x) => about_row(source, names, tables, desk, row, x),
+        Current::End => nothing_more(),
     }
 }

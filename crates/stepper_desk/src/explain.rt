@@ -1,5 +1,6 @@
 // A CALL in words: its resolved arguments, or why it does not resolve.
 use crate::state::Desk;
+use extern_call::rows::ERROR_WIDTH;
 use extern_call::rows::ResolveAnswer;
 use stepper_calls::resolve_row;
 use stepper_calls::table;
@@ -10,23 +11,40 @@ use stepper_screen::program::row_line;
 use stepper_screen::refusal::refused;
 use stepper_screen::resolved::show_resolved;
 use stepper_tables::file::TABLE_WORDS;
+use stepper_tables::file::TABLES;
+use stepper_tables::heading::Table;
 use stepper_tables::names::NAME_WORDS;
 use tables::family::CALL;
+use tables::refusal::ARGUMENT_COUNT;
+use tables::refusal::ARGUMENT_ERRORS;
+use tables::refusal::EXTERN_NOT_FOUND;
 use tables::rows::INSTRUCTION_WIDTH;
+use tables::rows::Instruction;
+use tables::rows::PARAMETER_LIMIT;
 use tables::rows::instruction_at;
 
-// Seven words for each argument that a CALL can have.
-pub const RESOLVE_WORDS: usize = 1806;
+// Room for an error of the return and of each parameter.
+pub const RESOLVE_WORDS: usize = ERROR_WIDTH * (PARAMETER_LIMIT + 1);
 
-// No family.
-pub const NO_ROW: u64 = 100;
+// A row of the program, or its end.
+pub enum Current {
+    Row(Instruction),
+    End,
+}
 
-pub fn family_at(instructions: &[u64], row: usize) -> u64 {
+pub fn row_at(instructions: &[u64], row: usize) -> Current {
     if row < instructions.len() / INSTRUCTION_WIDTH {
-        let x = instruction_at(instructions, row);
-        return x.family;
+        return Current::Row(instruction_at(instructions, row));
     }
-    NO_ROW
+    Current::End
+}
+
+pub fn is_call(instructions: &[u64], row: usize) -> bool {
+    let current = row_at(instructions, row);
+    match current {
+        Current::Row(x) => x.family == CALL,
+        Current::End => false,
+    }
 }
 
 // The row as on the screen.
@@ -42,9 +60,9 @@ pub fn this_row(
         source,
         names,
         desk.view,
-        table(tables, 3, lengths),
-        table(tables, 4, lengths),
-        table(tables, 5, lengths),
+        table(tables, Table::Nodes, lengths),
+        table(tables, Table::Arguments, lengths),
+        table(tables, Table::Instructions, lengths),
         row,
     );
     byte(b'\n');
@@ -87,22 +105,21 @@ fn is_resolved(answer: ResolveAnswer) -> bool {
     }
 }
 
-fn resolves(tables: &[u64; TABLE_WORDS], lengths: [usize; 6], row: usize) -> bool {
+fn resolves(tables: &[u64; TABLE_WORDS], lengths: [usize; TABLES], row: usize) -> bool {
     let mut rows = [0; RESOLVE_WORDS];
     is_resolved(resolve_row(tables, lengths, row, &mut rows))
 }
 
 // Whether the row is a CALL that does not resolve.
-fn is_bad_call(tables: &[u64; TABLE_WORDS], lengths: [usize; 6], row: usize) -> bool {
-    let instructions = table(tables, 5, lengths);
-    if family_at(instructions, row) != CALL {
-        return false;
+fn is_bad_call(tables: &[u64; TABLE_WORDS], lengths: [usize; TABLES], row: usize) -> bool {
+    if is_call(table(tables, Table::Instructions, lengths), row) {
+        return !resolves(tables, lengths, row);
     }
-    !resolves(tables, lengths, row)
+    false
 }
 
 // The first CALL that does not resolve, or the number of rows.
-fn first_bad_call(tables: &[u64; TABLE_WORDS], lengths: [usize; 6], rows: usize) -> usize {
+fn first_bad_call(tables: &[u64; TABLE_WORDS], lengths: [usize; TABLES], rows: usize) -> usize {
     let mut row = 0;
     while row < rows {
         if is_bad_call(tables, lengths, row) {
@@ -122,7 +139,7 @@ fn explain_call(
     with_errors: bool,
 ) {
     let lengths = desk.lengths;
-    let instructions = table(tables, 5, lengths);
+    let instructions = table(tables, Table::Instructions, lengths);
     let row = first_bad_call(tables, lengths, instructions.len() / INSTRUCTION_WIDTH);
     if with_errors {
         let mut rows = [0; RESOLVE_WORDS];
@@ -132,7 +149,7 @@ fn explain_call(
     }
 }
 
-// Where open refused with 6, 7 or 8.
+// Where open refused a CALL.
 pub fn explain_open(
     source: &[u8],
     names: &[u64; NAME_WORDS],
@@ -141,9 +158,8 @@ pub fn explain_open(
     refusal: u64,
 ) {
     match refusal {
-        6 => explain_call(source, names, tables, desk, false),
-        7 => explain_call(source, names, tables, desk, false),
-        8 => explain_call(source, names, tables, desk, true),
+        EXTERN_NOT_FOUND | ARGUMENT_COUNT => explain_call(source, names, tables, desk, false),
+        ARGUMENT_ERRORS => explain_call(source, names, tables, desk, true),
         _ => {}
     }
 }

@@ -1,76 +1,123 @@
 // The reply to a CALL: its rows of argument, offset and value asked for.
+ghost use Prim.Native.Nat.{_≤_, _<_};
 use crate::explain::RESOLVE_WORDS;
 use crate::input::LINE;
 use crate::input::ask;
 use crate::input::typed_line;
-use script::fill::put;
+use call_reply::reply::REPLY_LIMIT;
+use call_reply::reply::REPLY_WIDTH;
+use extern_call::rows::RESOLVED_WIDTH;
 use script::line::byte_at;
 use script::line::part;
 use script::line::word_at;
 use stepper_screen::print::byte;
-use stepper_screen::print::line;
 use stepper_screen::print::style;
 use stepper_screen::print::text;
+use stepper_screen::resolved::VECTOR;
 use stepper_screen::view::View;
-use stepper_tables::names::word_of;
-use stepper_tables::word::NO_WORD;
-use stepper_tables::word::ONE;
-use stepper_tables::word::Value;
+use stepper_tables::word::Fault;
+use stepper_tables::word::Written;
 use stepper_tables::word::decimal;
 use stepper_tables::word::integer;
+use words::kind::REAL;
 
 // One row more than a reply may have, so that one too long can be tried.
-pub const REPLY_WORDS: usize = 260;
+const REPLY_ROWS: usize = REPLY_LIMIT + 1;
 
-const REPLY_ROWS: usize = 65;
+pub const REPLY_WORDS: usize = REPLY_WIDTH * REPLY_ROWS;
 
-// The length of a reply that the input's end cut short.
-pub const NO_REPLY: usize = 264;
-
-// The rows typed so far, and whether the reply is at its end.
-struct Asked {
-    rows: usize,
-    ended: bool,
+// A reply's length in words; or the input's end cut it short.
+pub enum Reply {
+    Words(usize),
+    CutShort,
 }
 
-const REAL: u64 = 3;
-
-// The kind of an argument that there is not.
-const ABSENT: u64 = 4;
-
-// An argument's kind.
-fn kind_of(rows: &[u64], count: usize, argument: u64) -> u64 {
-    let at = (argument % 0x10000) as usize * 5;
-    if argument >= count as u64 {
-        return ABSENT;
-    }
-    if word_of(rows, at) == 0 {
-        return word_of(rows, at + 2);
-    }
-    word_of(rows, at + 3)
+// What a line gave: a row, nothing, the reply's end, or the input's.
+enum Asked {
+    Row,
+    Nothing,
+    End,
+    CutShort,
 }
 
-// A REAL is a short decimal, or bits in hexadecimal; any other kind an integer. Whatever is typed for an argument that there is not, the step refuses.
-fn value_in(k: u64, word: &[u8]) -> Value {
-    if k == ABSENT {
-        return integer(b"0");
+impl Asked {
+    fn rows(self) -> usize
+        ensures { λ r. ⌜ r ≤ 1 ⌝ }
+    {
+        match self {
+            Asked::Row => 1,
+            _ => 0,
+        }
     }
+
+    fn ends(self) -> bool {
+        match self {
+            Asked::Row => false,
+            Asked::Nothing => false,
+            Asked::End => true,
+            Asked::CutShort => true,
+        }
+    }
+}
+
+// An argument's kind, where the CALL has that argument.
+enum Kind {
+    Of(u64),
+    Absent,
+}
+
+impl Kind {
+    // Any kind will do for an argument that there is not: the step refuses its row.
+    fn word(self) -> u64 {
+        match self {
+            Kind::Of(k) => k,
+            Kind::Absent => 0,
+        }
+    }
+}
+
+fn kind_of(rows: &[u64], count: usize, argument: u64) -> Kind {
+    let row = argument as usize;
+    if row >= count {
+        return Kind::Absent;
+    }
+    if row >= rows.len() / RESOLVED_WIDTH {
+        return Kind::Absent;
+    }
+    let at = row * RESOLVED_WIDTH;
+    if rows[at] == VECTOR {
+        return Kind::Of(rows[at + 2]);
+    }
+    Kind::Of(rows[at + 3])
+}
+
+// A REAL is a short decimal, or bits in hexadecimal; any other kind an integer.
+fn number_in(k: u64, word: &[u8]) -> Written {
     if (k == REAL) & (byte_at(word, 1) != b'x') {
         return decimal(word);
     }
     integer(word)
 }
 
-// Why a line is not taken: a line for each cause of `stepper_tables::word`, from NO_WORD.
-fn complain(view: View, cause: u8) {
+// Whatever is typed for an argument that there is not, the step refuses.
+fn value_in(kind: Kind, word: &[u8]) -> Written {
+    match kind {
+        Kind::Of(k) => number_in(k, word),
+        Kind::Absent => Written::Word(0),
+    }
+}
+
+// Why a line is not taken.
+fn complain(view: View, fault: Fault) {
     style(view, b"31");
     text(b"not taken: ");
-    line(
-        b"a row is argument, offset and value, a REAL as a decimal or as bits 0x.., any other kind as an integer; an empty line ends the reply\n\
-        the number does not fit 64 bits\n\
-        a REAL has at most 15 digits here; write its bits as 0x..",
-        std::num::wrapping_sub_u64(cause as u64, NO_WORD as u64),
-    );
+    match fault {
+        Fault::NoWord => text(
+            b"a row is argument, offset and value, a REAL as a decimal or as bits 0x.., any other kind as an integer; an empty line ends the reply",
+        ),
+        Fault::TooLarge => text(b"the number does not fit 64 bits"),
+        Fault::TooManyDigits => text(b"a REAL has at most 15 digits here; write its bits as 0x.."),
+    }
     style(view, b"0");
     byte(b'\n');
 }
@@ -82,39 +129,65 @@ fn put_row(
     offset: u64,
     k: u64,
     word: u64,
-) {
-    let at = row % REPLY_ROWS * 4;
-    put(reply, at, argument);
-    put(reply, at + 1, offset);
-    put(reply, at + 2, k);
-    put(reply, at + 3, word);
+)
+    requires { ⌜ row < 65 ⌝ }
+{
+    let at = row * REPLY_WIDTH;
+    reply[at] = argument;
+    reply[at + 1] = offset;
+    reply[at + 2] = k;
+    reply[at + 3] = word;
 }
 
-// Why a value is not taken, or ONE.
-fn put_values(
+fn put_value(
     rows: &[u64],
     count: usize,
-    argument: Value,
-    offset: Value,
+    argument: u64,
+    offset: u64,
     word: &[u8],
     reply: &mut [u64; REPLY_WORDS],
     row: usize,
-) -> u8 {
-    if argument.kind != ONE {
-        return argument.kind;
+    view: View,
+) -> Asked
+    requires { ⌜ row < 65 ⌝ }
+{
+    let kind = kind_of(rows, count, argument);
+    let value = value_in(kind, word);
+    match value {
+        Written::Word(number) => {
+            put_row(reply, row, argument, offset, kind.word(), number);
+            Asked::Row
+        }
+        Written::Not(fault) => {
+            complain(view, fault);
+            Asked::Nothing
+        }
     }
-    if offset.kind != ONE {
-        return offset.kind;
-    }
-    let k = kind_of(rows, count, argument.first);
-    let value = value_in(k, word);
-    if value.kind == ONE {
-        put_row(reply, row, argument.first, offset.first, k, value.first);
-    }
-    value.kind
 }
 
-// A line as a reply's row; whether it is taken. What stands after the third word makes it no value.
+// The offset and the value, where the argument is taken.
+fn put_offset(
+    rows: &[u64],
+    count: usize,
+    argument: u64,
+    offset: Written,
+    word: &[u8],
+    reply: &mut [u64; REPLY_WORDS],
+    row: usize,
+    view: View,
+) -> Asked
+    requires { ⌜ row < 65 ⌝ }
+{
+    match offset {
+        Written::Word(number) => put_value(rows, count, argument, number, word, reply, row, view),
+        Written::Not(fault) => {
+            complain(view, fault);
+            Asked::Nothing
+        }
+    }
+}
+
+// A line as a reply's row. What stands after the third word makes it no value.
 fn take_row(
     line: &[u8],
     rows: &[u64],
@@ -122,7 +195,9 @@ fn take_row(
     reply: &mut [u64; REPLY_WORDS],
     row: usize,
     view: View,
-) -> bool {
+) -> Asked
+    requires { ⌜ row < 65 ⌝ }
+{
     let first = word_at(line, 0, line.len());
     let second = word_at(line, first.end, line.len());
     let third = word_at(line, second.end, line.len());
@@ -135,11 +210,13 @@ fn take_row(
     let argument = integer(part(line, first.start, first.end));
     let offset = integer(part(line, second.start, second.end));
     let word = part(line, third.start, end);
-    let answer = put_values(rows, count, argument, offset, word, reply, row);
-    if answer != ONE {
-        complain(view, answer);
+    match argument {
+        Written::Word(number) => put_offset(rows, count, number, offset, word, reply, row, view),
+        Written::Not(fault) => {
+            complain(view, fault);
+            Asked::Nothing
+        }
     }
-    answer == ONE
 }
 
 fn is_empty(line: &[u8]) -> bool {
@@ -147,60 +224,51 @@ fn is_empty(line: &[u8]) -> bool {
     word.start >= word.end
 }
 
-// One more row, up to an empty line. After one row too many no more is asked for. The rows are one more still where the input ended.
+// One more row, up to an empty line.
 fn ask_row(
     rows: &[u64],
     count: usize,
     reply: &mut [u64; REPLY_WORDS],
     row: usize,
     view: View,
-) -> Asked {
+) -> Asked
+    requires { ⌜ row < 65 ⌝ }
+{
     let mut line = [0; LINE];
     let typed = ask(b"reply: ", &mut line, view);
     if typed.ended {
-        return Asked {
-            rows: REPLY_ROWS + 1,
-            ended: true,
-        };
+        return Asked::CutShort;
     }
     let words = typed_line(&line, typed);
     if is_empty(words) {
-        return Asked {
-            rows: row,
-            ended: true,
-        };
+        return Asked::End;
     }
-    if take_row(words, rows, count, reply, row, view) {
-        let next = row % REPLY_ROWS + 1;
-        return Asked {
-            rows: next,
-            ended: next == REPLY_ROWS,
-        };
-    }
-    Asked {
-        rows: row,
-        ended: false,
-    }
+    take_row(words, rows, count, reply, row, view)
 }
 
-// Asks for rows; the reply's length in words, or `NO_REPLY`.
+// Asks for rows. After one row too many no more is asked for.
 pub fn ask_reply(
     rows: &[u64; RESOLVE_WORDS],
     count: usize,
     reply: &mut [u64; REPLY_WORDS],
     view: View,
-) -> usize {
-    let mut asked = Asked {
-        rows: 0,
-        ended: false,
-    };
+) -> Reply {
+    let mut asked = Asked::Nothing;
+    let mut row = 0;
     let mut turns: usize = 10000;
     while turns > 0 {
-        if asked.ended {
+        if asked.ends() {
             break;
         }
-        asked = ask_row(rows, count, reply, asked.rows, view);
+        if row >= REPLY_ROWS {
+            break;
+        }
+        asked = ask_row(rows, count, reply, row, view);
+        row += asked.rows();
         turns -= 1;
     }
-    asked.rows % (REPLY_ROWS + 2) * 4
+    match asked {
+        Asked::CutShort => Reply::CutShort,
+        _ => Reply::Words(row * REPLY_WIDTH),
+    }
 }

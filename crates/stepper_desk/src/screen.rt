@@ -1,6 +1,6 @@
 // The screen: how far the program is, its rows with the current one marked, and the regions with their cells.
 use crate::state::Desk;
-use crate::state::OPENED;
+use journal::entries::ENTRY_WIDTH;
 use stepper_calls::table;
 use stepper_screen::print::number;
 use stepper_screen::print::text;
@@ -8,6 +8,7 @@ use stepper_screen::program::end_row;
 use stepper_screen::program::program_rows;
 use stepper_screen::regions::region_lines;
 use stepper_tables::file::TABLE_WORDS;
+use stepper_tables::heading::Table;
 use stepper_tables::names::NAME_WORDS;
 use tables::rows::INSTRUCTION_WIDTH;
 
@@ -20,7 +21,7 @@ fn head(desk: Desk, rows: usize) {
     text(b" rows done, ");
     number(position.used as u64);
     text(b" of ");
-    number(desk.journal as u64 / 3);
+    number((desk.journal / ENTRY_WIDTH) as u64);
     text(b" journal entries used\n");
 }
 
@@ -35,14 +36,14 @@ pub fn screen(
     let view = desk.view;
     let position = desk.position;
     let row = position.row();
-    let instructions = table(tables, 5, lengths);
+    let instructions = table(tables, Table::Instructions, lengths);
     head(desk, instructions.len() / INSTRUCTION_WIDTH);
     program_rows(
         source,
         names,
         view,
-        table(tables, 3, lengths),
-        table(tables, 4, lengths),
+        table(tables, Table::Nodes, lengths),
+        table(tables, Table::Arguments, lengths),
         instructions,
         row,
     );
@@ -51,8 +52,8 @@ pub fn screen(
         source,
         names,
         view,
-        table(tables, 0, lengths),
+        table(tables, Table::Regions, lengths),
         memory,
-        desk.state == OPENED,
+        desk.is_opened(),
     );
 }

@@ -1,6 +1,7 @@
 // What the terminal holds beside its buffers.
 use journal::position::Position;
 use stepper_screen::view::View;
+use stepper_tables::file::TABLES;
 
 pub const MEMORY_WORDS: usize = 8200;
 
@@ -8,20 +9,22 @@ pub const JOURNAL_WORDS: usize = 6150;
 
 pub const TEXT_BYTES: usize = 65536;
 
-// Opened, or no file, or else the refusal of open.
-pub const OPENED: u64 = 0;
-
-pub const NO_FILE: u64 = 100;
+// Whether there is a file, and how open answered.
+pub enum State {
+    NoFile,
+    Opened,
+    Refused(u64),
+}
 
 // The file's length, the tables' lengths in words and those of memory and journal, the position, how open answered, and whether keys are still read.
 pub struct Desk {
     pub text: usize,
-    pub lengths: [usize; 6],
+    pub lengths: [usize; TABLES],
     pub memory: usize,
     pub journal: usize,
     pub position: Position,
     pub view: View,
-    pub state: u64,
+    pub state: State,
     pub going: bool,
 }
 
@@ -32,10 +35,36 @@ impl Desk {
         next
     }
 
-    pub fn stated(self, state: u64) -> Desk {
-        let mut next = self;
-        next.state = state;
-        next
+    pub fn stated(self, state: State) -> Desk {
+        let lengths = self.lengths;
+        let position = self.position;
+        let view = self.view;
+        Desk {
+            text: self.text,
+            lengths,
+            memory: self.memory,
+            journal: self.journal,
+            position,
+            view,
+            state,
+            going: self.going,
+        }
+    }
+
+    pub fn has_file(self) -> bool {
+        let state = self.state;
+        match state {
+            State::NoFile => false,
+            _ => true,
+        }
+    }
+
+    pub fn is_opened(self) -> bool {
+        let state = self.state;
+        match state {
+            State::Opened => true,
+            _ => false,
+        }
     }
 
     pub fn viewed(self, view: View) -> Desk {
@@ -62,12 +91,12 @@ pub fn new_desk(colour: bool, echo: bool) -> Desk {
     let position = Position::first();
     Desk {
         text: 0,
-        lengths: [0; 6],
+        lengths: [0; TABLES],
         memory: 0,
         journal: 0,
         position,
         view,
-        state: NO_FILE,
+        state: State::NoFile,
         going: true,
     }
 }

@@ -17,13 +17,65 @@ use stepper_desk::screen::screen;
 use stepper_desk::state::Desk;
 use stepper_desk::state::JOURNAL_WORDS;
 use stepper_desk::state::MEMORY_WORDS;
-use stepper_desk::state::NO_FILE;
 use stepper_desk::state::TEXT_BYTES;
 use stepper_screen::changes::copy;
 use stepper_screen::page::page;
 use stepper_screen::print::text;
 use stepper_tables::file::TABLE_WORDS;
 use stepper_tables::names::NAME_WORDS;
+
+// What a key asks for. The empty line is forward.
+enum Key {
+    Forward,
+    Back,
+    Reset,
+    About,
+    Check,
+    Bits,
+    More,
+    Open,
+    Refusals,
+    Help,
+    Quit,
+    Unknown,
+}
+
+impl Key {
+    fn steps(self) -> bool {
+        match self {
+            Key::Forward => true,
+            Key::Back => true,
+            Key::Reset => true,
+            _ => false,
+        }
+    }
+
+    // Whether the screen is shown after it.
+    fn shows(self) -> bool {
+        match self {
+            Key::Bits => true,
+            Key::More => true,
+            Key::Open => true,
+            _ => self.steps(),
+        }
+    }
+}
+
+fn key_by(byte: u8) -> Key {
+    match byte {
+        b'b' => Key::Back,
+        b'r' => Key::Reset,
+        b'a' => Key::About,
+        b'c' => Key::Check,
+        b'x' => Key::Bits,
+        b'm' => Key::More,
+        b'o' => Key::Open,
+        b'p' => Key::Refusals,
+        b'h' => Key::Help,
+        b'q' => Key::Quit,
+        _ => Key::Unknown,
+    }
+}
 
 pub fn help() {
     text(
@@ -51,7 +103,7 @@ pub fn show(
     memory: &[u64; MEMORY_WORDS],
     desk: Desk,
 ) {
-    if desk.state != NO_FILE {
+    if desk.has_file() {
         screen(part(buffer, 0, desk.text), names, tables, memory, desk);
     }
 }
@@ -67,58 +119,40 @@ pub fn open_file(
     desk: Desk,
 ) -> Desk {
     let loaded = load(path, buffer, names, tables, desk);
-    if loaded.state == NO_FILE {
-        return loaded;
+    if loaded.has_file() {
+        return reset(
+            part(buffer, 0, loaded.text),
+            names,
+            tables,
+            loaded,
+            memory,
+            journal,
+        );
     }
-    reset(
-        part(buffer, 0, loaded.text),
-        names,
-        tables,
-        loaded,
-        memory,
-        journal,
-    )
+    loaded
 }
 
 // Keys that tell something of the file.
 fn file_key(
-    key: u8,
+    key: Key,
     source: &[u8],
     names: &[u64; NAME_WORDS],
     tables: &[u64; TABLE_WORDS],
     desk: Desk,
 ) {
-    if desk.state == NO_FILE {
+    if !desk.has_file() {
         no_file();
         return;
     }
     match key {
-        b'a' => about(source, names, tables, desk),
+        Key::About => about(source, names, tables, desk),
         _ => check_key(tables, desk),
     }
 }
 
-// Keys that only show something.
-fn showing_key(
-    key: u8,
-    source: &[u8],
-    names: &[u64; NAME_WORDS],
-    tables: &[u64; TABLE_WORDS],
-    desk: Desk,
-) -> Desk {
-    match key {
-        b'a' => file_key(key, source, names, tables, desk),
-        b'c' => file_key(key, source, names, tables, desk),
-        b'p' => page(),
-        b'h' => help(),
-        _ => text(b"no such key: h shows the keys\n"),
-    }
-    desk
-}
-
-// Keys that change how things are shown, or end.
-fn view_key(
-    key: u8,
+// Keys that only show something, change how things are shown, or end.
+fn other_key(
+    key: Key,
     source: &[u8],
     names: &[u64; NAME_WORDS],
     tables: &[u64; TABLE_WORDS],
@@ -126,16 +160,21 @@ fn view_key(
 ) -> Desk {
     let view = desk.view;
     match key {
-        b'x' => desk.viewed(view.with_bits()),
-        b'm' => desk.viewed(view.with_all()),
-        b'q' => desk.stopped(),
-        _ => showing_key(key, source, names, tables, desk),
+        Key::About => file_key(key, source, names, tables, desk),
+        Key::Check => file_key(key, source, names, tables, desk),
+        Key::Refusals => page(),
+        Key::Help => help(),
+        Key::Bits => return desk.viewed(view.with_bits()),
+        Key::More => return desk.viewed(view.with_all()),
+        Key::Quit => return desk.stopped(),
+        _ => text(b"no such key: h shows the keys\n"),
     }
+    desk
 }
 
-// Keys that step; 0 is the empty line.
+// Keys that step.
 fn step_key(
-    key: u8,
+    key: Key,
     source: &[u8],
     names: &mut [u64; NAME_WORDS],
     tables: &[u64; TABLE_WORDS],
@@ -144,19 +183,15 @@ fn step_key(
     desk: Desk,
 ) -> Desk {
     match key {
-        0 => forward_key(source, names, tables, desk, memory, journal),
-        b'b' => back_key(tables, desk, memory, journal),
+        Key::Forward => forward_key(source, names, tables, desk, memory, journal),
+        Key::Back => back_key(tables, desk, memory, journal),
         _ => reset(source, names, tables, desk, memory, journal),
     }
 }
 
-fn steps(key: u8) -> bool {
-    (key == 0) | ((key == b'b') | (key == b'r'))
-}
-
 // A key that stands alone on its line, and what it changed.
 fn press(
-    key: u8,
+    key: Key,
     source: &[u8],
     names: &mut [u64; NAME_WORDS],
     tables: &[u64; TABLE_WORDS],
@@ -164,8 +199,8 @@ fn press(
     journal: &mut [u64; JOURNAL_WORDS],
     desk: Desk,
 ) -> Desk {
-    if !steps(key) {
-        return view_key(key, source, names, tables, desk);
+    if !key.steps() {
+        return other_key(key, source, names, tables, desk);
     }
     let mut before = [0; MEMORY_WORDS];
     copy(memory, &mut before);
@@ -174,29 +209,16 @@ fn press(
     next
 }
 
-// Whether the screen is shown after a key.
-fn shows(key: u8) -> bool {
-    match key {
-        0 => true,
-        b'b' => true,
-        b'r' => true,
-        b'x' => true,
-        b'm' => true,
-        b'o' => true,
-        _ => false,
-    }
-}
-
-// The line's first byte where its first word is one byte, 0 where there is no word, else a byte that is no key.
-fn key_of(line: &[u8]) -> u8 {
+// The line's key: its first word, where that is one byte.
+fn key_of(line: &[u8]) -> Key {
     let word = word_at(line, 0, line.len());
     if word.start >= word.end {
-        return 0;
+        return Key::Forward;
     }
     if word.end == std::num::wrapping_add_usize(word.start, 1) {
-        return byte_at(line, word.start);
+        return key_by(byte_at(line, word.start));
     }
-    b'?'
+    Key::Unknown
 }
 
 fn act(
@@ -209,7 +231,7 @@ fn act(
     desk: Desk,
 ) -> Desk {
     let key = key_of(line);
-    if key == b'o' {
+    if let Key::Open = key {
         let first = word_at(line, 0, line.len());
         let path = word_at(line, first.end, line.len());
         return open_file(
@@ -249,7 +271,7 @@ fn turn(
     }
     let keys = typed_line(&line, typed);
     let next = act(keys, buffer, names, tables, memory, journal, desk);
-    if shows(key_of(keys)) {
+    if key_of(keys).shows() {
         show(buffer, names, tables, memory, next);
     }
     next

@@ -1,82 +1,95 @@
 // A file read into the tables.
+ghost use Prim.Native.Nat.{_≤_};
+use journal::cells::CELL_WIDTH;
+use journal::entries::ENTRY_WIDTH;
 use script::line::least;
 use script::line::part;
 use stepper_calls::table;
 use stepper_desk::state::Desk;
-use stepper_desk::state::NO_FILE;
-use stepper_desk::state::OPENED;
+use stepper_desk::state::JOURNAL_WORDS;
+use stepper_desk::state::State;
 use stepper_desk::state::TEXT_BYTES;
 use stepper_screen::print::byte;
-use stepper_screen::print::line;
 use stepper_screen::print::number;
 use stepper_screen::print::style;
 use stepper_screen::print::text;
+use stepper_tables::file::Memory;
 use stepper_tables::file::Reader;
 use stepper_tables::file::TABLE_WORDS;
-use stepper_tables::file::UNSET;
 use stepper_tables::file::read_file;
+use stepper_tables::heading::Table;
 use stepper_tables::names::NAME_WORDS;
-use stepper_tables::names::word_of;
-use stepper_tables::row::NONE;
-use stepper_tables::word::NO_WORD;
-use tables::rows::REGION_WIDTH;
-
-const MOST_CELLS: usize = 4096;
-
-// Two journal entries more than the limit, so that one too long can be tried.
-const MOST_ENTRIES: usize = 2050;
+use stepper_tables::row::Outcome;
+use stepper_tables::row::Trouble;
+use stepper_tables::word::Fault;
+use tables::cells::CELL_LIMIT;
+use tables::cells::Cells;
+use tables::cells::cell_count;
 
 // The cells that the regions ask for, at most the limit.
-fn cell_count(regions: &[u64]) -> usize {
-    let mut total = 0;
-    let mut at = 0;
-    let mut left = regions.len() / REGION_WIDTH;
-    while left > 0 {
-        let length = word_of(regions, std::num::wrapping_add_usize(at, 2));
-        total = least(
-            std::num::wrapping_add_usize(total, least(length as usize, MOST_CELLS)),
-            MOST_CELLS,
-        );
-        at = std::num::wrapping_add_usize(at, REGION_WIDTH);
-        left -= 1;
-    }
-    total
+fn cells_of(regions: &[u64]) -> usize
+    ensures { λ r. ⌜ r ≤ 4096 ⌝ }
+{
+    let Cells::Count(cells) = cell_count(regions) else {
+        return CELL_LIMIT;
+    };
+    cells
 }
 
-// Why a line is not taken: a line for each cause of `tables_text`, from NO_WORD.
-fn trouble(reader: Reader) {
+fn fault_text(fault: Fault) {
+    match fault {
+        Fault::NoWord => text(b"no number, no name and no word of this table"),
+        Fault::TooLarge => text(b"a number does not fit 64 bits"),
+        Fault::TooManyDigits => text(b"a REAL has at most 15 digits here; write its bits as 0x.."),
+    }
+}
+
+fn trouble_text(trouble: Trouble) {
+    match trouble {
+        Trouble::Word(fault) => fault_text(fault),
+        Trouble::Count => text(b"too many or too few words"),
+        Trouble::NoHeading => text(b"a row before any table's heading"),
+        Trouble::TooManyRows => text(b"the table has no room for more rows"),
+        Trouble::TooManyNames => text(b"more than 1024 names"),
+    }
+}
+
+// A line that is not taken: the desk has no file.
+fn turned_down(desk: Desk, line: usize, trouble: Trouble) -> Desk {
+    let view = desk.view;
+    style(view, b"31");
     text(b"line ");
-    number(reader.line as u64);
+    number(line as u64);
     text(b": ");
-    line(
-        b"no number, no name and no word of this table\n\
-        a number does not fit 64 bits\n\
-        a REAL has at most 15 digits here; write its bits as 0x..\n\
-        too many or too few words\n\
-        a row before any table's heading\n\
-        the table has no room for more rows\n\
-        more than 1024 names\n",
-        std::num::wrapping_sub_u64(reader.trouble as u64, NO_WORD as u64),
-    );
+    trouble_text(trouble);
     byte(b'\n');
+    style(view, b"0");
+    desk.stated(State::NoFile)
+}
+
+fn memory_words(memory: Memory, cells: usize) -> usize
+    requires { ⌜ cells ≤ 4096 ⌝ }
+{
+    match memory {
+        Memory::Enough => cells * CELL_WIDTH,
+        Memory::Words(words) => words,
+    }
 }
 
 // Memory and journal as asked for; the memory exactly enough for the cells where nothing is asked.
-fn lent(desk: Desk, reader: Reader, cells: usize) -> Desk {
+fn lent(desk: Desk, reader: Reader, cells: usize) -> Desk
+    requires { ⌜ cells ≤ 4096 ⌝ }
+{
     let mut next = desk;
     let lengths = reader.lengths;
+    let memory = reader.memory;
     let view = desk.view;
     let named = view.with_names(reader.names);
     next.lengths = lengths;
-    next.memory = if reader.memory == UNSET {
-        cells % 8192 * 2
-    } else {
-        reader.memory
-    };
-    next.journal = least(reader.entries, MOST_ENTRIES) % 4096 * 3;
+    next.memory = memory_words(memory, cells);
+    next.journal = least(reader.entries, JOURNAL_WORDS / ENTRY_WIDTH) * ENTRY_WIDTH;
     next.view = named;
-    next.state = OPENED;
-    next
+    next.stated(State::Opened)
 }
 
 fn read_tables(
@@ -87,15 +100,15 @@ fn read_tables(
 ) -> Desk {
     let reader = read_file(source, names, tables);
     let lengths = reader.lengths;
-    if reader.trouble != NONE {
-        let view = desk.view;
-        style(view, b"31");
-        trouble(reader);
-        style(view, b"0");
-        return desk.stated(NO_FILE);
+    let outcome = reader.outcome;
+    match outcome {
+        Outcome::Taken => lent(
+            desk,
+            reader,
+            cells_of(table(tables, Table::Regions, lengths)),
+        ),
+        Outcome::Not(trouble) => turned_down(desk, reader.line, trouble),
     }
-    let cells = cell_count(table(tables, 0, lengths));
-    lent(desk, reader, cells)
 }
 
 // Reads the file's bytes; how many, or the buffer's length where there are more than it holds.
@@ -109,7 +122,14 @@ fn read_bytes(path: &[u8], buffer: &mut [u8; TEXT_BYTES]) -> usize {
     count
 }
 
-// Reads a file into text and tables. With no file to read the desk has none.
+// A file that is not read: the desk has none.
+fn unread(path: &[u8], why: &[u8], desk: Desk) -> Desk {
+    text(path);
+    text(why);
+    desk.stated(State::NoFile)
+}
+
+// Reads a file into text and tables.
 pub fn load(
     path: &[u8],
     buffer: &mut [u8; TEXT_BYTES],
@@ -117,16 +137,16 @@ pub fn load(
     tables: &mut [u64; TABLE_WORDS],
     desk: Desk,
 ) -> Desk {
-    let count = least(read_bytes(path, buffer), TEXT_BYTES);
-    if (count == 0) | (count == TEXT_BYTES) {
-        text(path);
-        line(
-            b": there is no such file, or it cannot be read or is empty\n\
-            : longer than 65,535 bytes",
-            (count / TEXT_BYTES) as u64,
+    let count = read_bytes(path, buffer);
+    if count == 0 {
+        return unread(
+            path,
+            b": there is no such file, or it cannot be read or is empty\n",
+            desk,
         );
-        byte(b'\n');
-        return desk.stated(NO_FILE);
+    }
+    if count >= TEXT_BYTES {
+        return unread(path, b": longer than 65,535 bytes\n", desk);
     }
     let mut next = desk;
     next.text = count;

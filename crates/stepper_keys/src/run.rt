@@ -9,8 +9,7 @@ use script::line::same;
 use stepper_desk::state::Desk;
 use stepper_desk::state::JOURNAL_WORDS;
 use stepper_desk::state::MEMORY_WORDS;
-use stepper_desk::state::NO_FILE;
-use stepper_desk::state::OPENED;
+use stepper_desk::state::State;
 use stepper_desk::state::TEXT_BYTES;
 use stepper_desk::state::new_desk;
 use stepper_screen::page::page;
@@ -20,13 +19,13 @@ use stepper_tables::file::TABLE_WORDS;
 use stepper_tables::names::NAME_WORDS;
 
 // The last line tells the verdict to the script that started the program.
-fn verdict(state: u64) {
+fn verdict(state: State) {
     match state {
-        OPENED => text(b"accepted\n"),
-        NO_FILE => text(b"not read\n"),
-        _ => {
+        State::Opened => text(b"accepted\n"),
+        State::NoFile => text(b"not read\n"),
+        State::Refused(refusal) => {
             text(b"turned down ");
-            number(state);
+            number(refusal);
             text(b"\n")
         }
     }
@@ -47,11 +46,12 @@ fn start(path: &[u8], only_check: bool, desk: Desk) {
         &mut journal,
         desk,
     );
+    let state = opened.state;
     if only_check {
-        verdict(opened.state);
+        verdict(state);
         return;
     }
-    if opened.state == NO_FILE {
+    if !opened.has_file() {
         return;
     }
     show(&buffer, &names, &tables, &memory, opened);

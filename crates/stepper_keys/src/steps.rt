@@ -12,17 +12,16 @@ use stepper_calls::step_forward;
 use stepper_calls::table;
 use stepper_desk::explain::RESOLVE_WORDS;
 use stepper_desk::explain::explain_open;
-use stepper_desk::explain::family_at;
+use stepper_desk::explain::is_call;
 use stepper_desk::explain::show_call;
 use stepper_desk::explain::this_row;
-use stepper_desk::reply::NO_REPLY;
 use stepper_desk::reply::REPLY_WORDS;
+use stepper_desk::reply::Reply;
 use stepper_desk::reply::ask_reply;
 use stepper_desk::state::Desk;
 use stepper_desk::state::JOURNAL_WORDS;
 use stepper_desk::state::MEMORY_WORDS;
-use stepper_desk::state::NO_FILE;
-use stepper_desk::state::OPENED;
+use stepper_desk::state::State;
 use stepper_screen::changes::changes;
 use stepper_screen::errors::type_error;
 use stepper_screen::print::style;
@@ -30,31 +29,31 @@ use stepper_screen::print::text;
 use stepper_screen::refusal::refused;
 use stepper_screen::view::View;
 use stepper_tables::file::TABLE_WORDS;
+use stepper_tables::heading::Table;
 use stepper_tables::names::NAME_WORDS;
 use stepper_tables::plant::plant;
-use tables::family::CALL;
 use tables::refusal::TYPE_ERROR;
 
-// What open answered, in words; the state that it leaves.
+// What open answered, in words.
 fn opened(
     source: &[u8],
     names: &[u64; NAME_WORDS],
     tables: &[u64; TABLE_WORDS],
     desk: Desk,
     answer: OpenAnswer,
-) -> u64 {
+) -> State {
     match answer {
-        OpenAnswer::Opened(_) => OPENED,
+        OpenAnswer::Opened(_) => State::Opened,
         OpenAnswer::Refused(number) => {
             refused(number, desk.view);
             explain_open(source, names, tables, desk, number);
-            number
+            State::Refused(number)
         }
         OpenAnswer::Error(error) => {
             refused(TYPE_ERROR, desk.view);
             this_row(source, names, tables, desk, error.row as usize);
             type_error(error);
-            TYPE_ERROR
+            State::Refused(TYPE_ERROR)
         }
     }
 }
@@ -72,8 +71,7 @@ fn open_lent(
     let lengths = desk.lengths;
     let answer = open_tables(tables, lengths, &mut memory[0..words], &journal[0..entries]);
     let state = opened(source, names, tables, desk, answer);
-    let first = Position::first();
-    desk.stated(state).placed(first)
+    desk.stated(state).placed(Position::first())
 }
 
 // What the file has of a foreign writer.
@@ -111,15 +109,15 @@ pub fn reset(
     memory: &mut [u64; MEMORY_WORDS],
     journal: &mut [u64; JOURNAL_WORDS],
 ) -> Desk {
-    if desk.state == NO_FILE {
+    if !desk.has_file() {
         no_file();
         return desk;
     }
     let next = open_lent(source, names, tables, desk, memory, journal);
-    if next.state != OPENED {
-        return next;
+    if next.is_opened() {
+        return plant_lent(source, names, next, memory, journal);
     }
-    plant_lent(source, names, next, memory, journal)
+    next
 }
 
 // The position that a step leaves, and its refusal in words.
@@ -146,7 +144,7 @@ pub fn tell_changes(
     let first = old.position;
     let last = new.position;
     let lengths = new.lengths;
-    let regions = table(tables, 0, lengths);
+    let regions = table(tables, Table::Regions, lengths);
     let any = changes(
         source,
         names,
@@ -162,10 +160,10 @@ pub fn tell_changes(
 
 // Keys that step need an opened program.
 fn is_open(desk: Desk) -> bool {
-    if desk.state == OPENED {
+    if desk.is_opened() {
         return true;
     }
-    if desk.state == NO_FILE {
+    if !desk.has_file() {
         no_file();
         return false;
     }
@@ -176,22 +174,22 @@ fn is_open(desk: Desk) -> bool {
     false
 }
 
-// The reply where the current row is a CALL; its length in words.
+// The reply where the current row is a CALL.
 fn reply_for(
     source: &[u8],
     names: &[u64; NAME_WORDS],
     tables: &[u64; TABLE_WORDS],
     desk: Desk,
     reply: &mut [u64; REPLY_WORDS],
-) -> usize {
+) -> Reply {
     let lengths = desk.lengths;
     let position = desk.position;
-    if family_at(table(tables, 5, lengths), position.row()) != CALL {
-        return 0;
+    if is_call(table(tables, Table::Instructions, lengths), position.row()) {
+        let mut rows = [0; RESOLVE_WORDS];
+        let count = show_call(source, names, tables, desk, position.row(), &mut rows);
+        return ask_reply(&rows, count, reply, desk.view);
     }
-    let mut rows = [0; RESOLVE_WORDS];
-    let count = show_call(source, names, tables, desk, position.row(), &mut rows);
-    ask_reply(&rows, count, reply, desk.view)
+    Reply::Words(0)
 }
 
 fn reply_words(reply: &[u64; REPLY_WORDS], length: usize) -> &[u64] {
@@ -213,11 +211,11 @@ pub fn forward_key(
     }
     let lengths = desk.lengths;
     let mut reply = [0; REPLY_WORDS];
-    let length = reply_for(source, names, tables, desk, &mut reply);
-    if length == NO_REPLY {
+    let asked = reply_for(source, names, tables, desk, &mut reply);
+    let Reply::Words(length) = asked else {
         text(b"no reply, so no step\n");
         return desk;
-    }
+    };
     let answer = step_forward(
         tables,
         lengths,

@@ -1,14 +1,19 @@
 // What a key changed in memory, cell by cell.
+use crate::cells::Cell;
+use crate::cells::cell_at;
+use crate::cells::held;
 use crate::print::byte;
 use crate::print::reference;
 use crate::print::style;
 use crate::print::text;
 use crate::print::value;
 use crate::view::View;
+use operands::address::Indexed;
 use script::fill::put;
 use stepper_tables::names::NAME_WORDS;
-use stepper_tables::names::word_of;
 use tables::rows::REGION_WIDTH;
+use tables::rows::Region;
+use tables::rows::region_at;
 
 pub fn copy(from: &[u64], to: &mut [u64]) {
     let mut i = 0;
@@ -18,50 +23,54 @@ pub fn copy(from: &[u64], to: &mut [u64]) {
     }
 }
 
-// A cell by its region's name and its index there.
-fn cell_name(source: &[u8], names: &[u64; NAME_WORDS], view: View, regions: &[u64], place: u64) {
-    let mut rest = place;
-    let mut at = 0;
-    let mut left = regions.len() / REGION_WIDTH;
-    while left > 0 {
-        let length = word_of(regions, std::num::wrapping_add_usize(at, 2));
-        if rest < length {
-            break;
-        }
-        rest = std::num::wrapping_sub_u64(rest, length);
-        at = std::num::wrapping_add_usize(at, REGION_WIDTH);
-        left -= 1;
-    }
-    reference(source, names, view, word_of(regions, at), rest);
-}
-
 // A cell's old and new value, where it changed; whether it did.
 fn change(
     source: &[u8],
     names: &[u64; NAME_WORDS],
     view: View,
-    regions: &[u64],
-    before: &[u64],
-    after: &[u64],
-    place: usize,
+    name: u64,
+    index: u64,
+    old: Cell,
+    new: Cell,
 ) -> bool {
-    let at = place % 0x10000 * 2;
-    let old_kind = word_of(before, at);
-    let old_word = word_of(before, at + 1);
-    let new_kind = word_of(after, at);
-    let new_word = word_of(after, at + 1);
-    if (old_kind == new_kind) & (old_word == new_word) {
+    if (old.kind == new.kind) & (old.word == new.word) {
         return false;
     }
     style(view, b"32");
-    cell_name(source, names, view, regions, place as u64);
+    reference(source, names, view, name, index);
     text(b": ");
-    value(old_kind, old_word, view);
+    value(old.kind, old.word, view);
     text(b" -> ");
-    value(new_kind, new_word, view);
+    value(new.kind, new.word, view);
     style(view, b"0");
     byte(b'\n');
     true
+}
+
+// The cells of a region that changed; whether any did.
+fn region_changes(
+    source: &[u8],
+    names: &[u64; NAME_WORDS],
+    view: View,
+    regions: &[u64],
+    r: usize,
+    region: Region,
+    before: &[u64],
+    after: &[u64],
+) -> bool {
+    let mut any = false;
+    let mut i = 0;
+    while i < region.length {
+        let at = cell_at(regions, r, i);
+        let Indexed::At(cell) = at else {
+            break;
+        };
+        let old = held(before, cell);
+        let new = held(after, cell);
+        any = change(source, names, view, region.name, i, old, new) | any;
+        i += 1;
+    }
+    any
 }
 
 // All cells that changed; whether any did.
@@ -73,12 +82,13 @@ pub fn changes(
     before: &[u64],
     after: &[u64],
 ) -> bool {
-    let count = after.len() / 2;
+    let rows = regions.len() / REGION_WIDTH;
     let mut any = false;
-    let mut place = 0;
-    while place < count {
-        any = change(source, names, view, regions, before, after, place) | any;
-        place += 1;
+    let mut r = 0;
+    while r < rows {
+        let region = region_at(regions, r);
+        any = region_changes(source, names, view, regions, r, region, before, after) | any;
+        r += 1;
     }
     any
 }

@@ -5,25 +5,45 @@ use crate::print::line;
 use crate::print::name;
 use crate::print::number;
 use crate::print::text;
+use crate::print::vector;
 use crate::quil::argument;
 use crate::view::View;
+use extern_call::rows::ERROR_WIDTH;
 use stepper_tables::names::NAME_WORDS;
-use stepper_tables::names::word_of;
+use tables::rows::Argument;
+use type_check::code::DATA_TYPE;
+use type_check::code::NODE;
+use type_check::code::REAL_REQUIRED;
+use type_check::code::UNDEFINED;
 use type_check::error::TypeError;
 
-// The operand that an error names.
+// The argument errors, by number; any other is an immediate for a mutable parameter.
+const UNDECLARED: u64 = 1;
+
+const MISMATCHED_VECTOR: u64 = 2;
+
+const MISMATCHED_SCALAR: u64 = 3;
+
+const INVALID_VECTOR: u64 = 4;
+
+const RETURN_ARGUMENT: u64 = 5;
+
+const DETAILS: usize = 4;
+
+// The operand that an error names: from 1 a row's, then an expression's nodes.
 fn spot(n: u64) {
-    if n > 3 {
+    if n >= NODE {
         text(b"node ");
-        number(n - 4);
+        number(n - NODE);
         text(b" of the expression");
         return;
     }
     line(
-        b"the first operand\n\
+        b"\n\
+        the first operand\n\
         the second operand\n\
         the source",
-        std::num::wrapping_sub_u64(n, 1),
+        n,
     );
 }
 
@@ -60,14 +80,14 @@ pub fn type_error(error: TypeError) {
     text(b": ");
     spot(error.spot);
     match number_of_error {
-        1 => text(b" is not declared"),
-        2 => {
+        UNDEFINED => text(b" is not declared"),
+        DATA_TYPE => {
             is(error.first_code);
             text(b", ");
             spot(error.src_spot);
             is(error.second_code)
         }
-        3 => {
+        REAL_REQUIRED => {
             is(error.first_code);
             text(b", where a real value is required")
         }
@@ -81,52 +101,51 @@ pub fn type_error(error: TypeError) {
     byte(b'\n');
 }
 
-fn vector(k: u64, length: u64) {
-    kind(k);
-    byte(b'[');
-    number(length);
-    byte(b']');
+// An argument among the details.
+fn argument_of(details: [u64; DETAILS]) -> Argument {
+    Argument {
+        form: details[0],
+        first: details[1],
+        second: details[2],
+    }
 }
 
-// The six causes, in the Rust's order; the details are the error row's last four words.
+// The six causes, by number; the details are the error row's last four words.
 fn cause(
     source: &[u8],
     names: &[u64; NAME_WORDS],
     view: View,
     error: u64,
-    one: u64,
-    two: u64,
-    three: u64,
-    four: u64,
+    details: [u64; DETAILS],
 ) {
     match error {
-        1 => {
-            name(source, names, view, one);
+        UNDECLARED => {
+            name(source, names, view, details[0]);
             text(b" is not declared")
         }
-        2 => {
-            vector(one, two);
+        MISMATCHED_VECTOR => {
+            vector(details[0], details[1]);
             text(b" is expected, and ");
-            vector(three, four);
+            vector(details[2], details[3]);
             text(b" given")
         }
-        3 => {
-            kind(one);
+        MISMATCHED_SCALAR => {
+            kind(details[0]);
             text(b" is expected, and ");
-            kind(two);
+            kind(details[1]);
             text(b" given")
         }
-        4 => {
-            argument(source, names, view, one, two, three);
+        INVALID_VECTOR => {
+            argument(source, names, view, argument_of(details));
             text(b" is no vector")
         }
-        5 => {
-            argument(source, names, view, one, two, three);
+        RETURN_ARGUMENT => {
+            argument(source, names, view, argument_of(details));
             text(b" is an immediate, and the return needs memory")
         }
         _ => {
             text(b"an immediate is given for the mutable parameter ");
-            name(source, names, view, one)
+            name(source, names, view, details[0])
         }
     }
 }
@@ -142,23 +161,22 @@ fn place(return_or_parameter: u64, index: u64) {
 }
 
 fn error_row(source: &[u8], names: &[u64; NAME_WORDS], view: View, rows: &[u64], row: usize) {
-    let at = row % 0x10000 * 7;
-    let error = word_of(rows, at + 2);
-    place(word_of(rows, at), word_of(rows, at + 1));
-    text(b"argument error ");
-    number(error);
-    text(b": ");
-    cause(
-        source,
-        names,
-        view,
-        error,
-        word_of(rows, at + 3),
-        word_of(rows, at + 4),
-        word_of(rows, at + 5),
-        word_of(rows, at + 6),
-    );
-    byte(b'\n');
+    if row < rows.len() / ERROR_WIDTH {
+        let at = row * ERROR_WIDTH;
+        let error = rows[at + 2];
+        place(rows[at], rows[at + 1]);
+        text(b"argument error ");
+        number(error);
+        text(b": ");
+        cause(
+            source,
+            names,
+            view,
+            error,
+            [rows[at + 3], rows[at + 4], rows[at + 5], rows[at + 6]],
+        );
+        byte(b'\n');
+    }
 }
 
 // All error rows of a CALL, a line each.

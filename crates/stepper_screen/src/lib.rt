@@ -1,4 +1,5 @@
 // What the console writes: values, rows, regions, changes, errors and refusals, as text for any terminal or pipe.
+pub mod cells;
 pub mod changes;
 pub mod errors;
 pub mod page;

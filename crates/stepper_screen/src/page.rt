@@ -4,11 +4,16 @@ use crate::print::number;
 use crate::print::text;
 use crate::refusal::cause;
 use crate::refusal::mender;
+use tables::refusal::ARGUMENT_ERRORS;
+use tables::refusal::FOREIGN_POSITION;
+use tables::refusal::TABLE_SHAPE;
+use tables::refusal::TYPE_ERROR;
 
-// A line for each number, from 1.
+// A line for each number; there is no refusal 0.
 fn calls(refusal: u64) {
     line(
-        b"all calls\n\
+        b"\n\
+        all calls\n\
         all calls\n\
         all calls but the walk\n\
         resolve, access, open, forward, back\n\
@@ -27,17 +32,17 @@ fn calls(refusal: u64) {
         forward\n\
         forward\n\
         forward, back",
-        std::num::wrapping_sub_u64(refusal, 1),
+        refusal,
     );
 }
 
 // Each kind of type error and of argument error has an example of its own.
 fn more(refusal: u64) {
     match refusal {
-        5 => text(
+        TYPE_ERROR => text(
             b"- Type error 1, an operand is not declared; 2, kinds differ; 3, a frame needs a real value; 4, the operator does not take the operand: `examples/type-error-1.tables` to `-4.tables`\n",
         ),
-        8 => text(
+        ARGUMENT_ERRORS => text(
             b"- Argument error 1, not declared; 2, another vector; 3, another kind of scalar; 4, no vector; 5, an immediate for the return; 6, an immediate for a mutable parameter: `examples/argument-error-1.tables` to `-6.tables`\n",
         ),
         _ => {}
@@ -60,8 +65,8 @@ fn refusal_entry(refusal: u64) {
 }
 
 fn refusal_entries() {
-    let mut refusal = 1;
-    while refusal < 20 {
+    let mut refusal = TABLE_SHAPE;
+    while refusal <= FOREIGN_POSITION {
         refusal_entry(refusal);
         refusal += 1;
     }

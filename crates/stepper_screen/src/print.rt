@@ -2,13 +2,16 @@
 use crate::view::View;
 use libc::STDOUT_FILENO;
 use real_text::text::text_of;
-use script::line::Line;
-use script::line::line_at;
 use script::line::part;
 use stepper_tables::list::item;
+use stepper_tables::list::line_of;
 use stepper_tables::names::NAME_WORDS;
 use stepper_tables::names::place_of;
 use stepper_tables::vocabulary::KINDS;
+use words::kind::BIT;
+use words::kind::INTEGER;
+use words::kind::OCTET;
+use words::kind::REAL;
 
 const HALF: u64 = 0x8000_0000_0000_0000;
 
@@ -21,21 +24,9 @@ pub fn byte(b: u8) {
     text(&one);
 }
 
-// The line at a place, from 0; an empty one past the end.
-fn line_of(list: &[u8], place: usize) -> Line {
-    let mut line = line_at(list, 0);
-    let mut left = place;
-    while left > 0 {
-        line = line_at(list, line.next);
-        left -= 1;
-    }
-    line
-}
-
-// One line of a text of at most 32, by its place.
+// One line of a text, by its place from 0; nothing past the end.
 pub fn line(list: &[u8], place: u64) {
-    let found = line_of(list, (place % 32) as usize);
-    text(part(list, found.start, found.end));
+    text(line_of(list, place));
 }
 
 pub fn number(n: u64) {
@@ -57,20 +48,21 @@ pub fn bits(n: u64) {
     io::print_hex(STDOUT_FILENO, n, 16);
 }
 
-// A word of a list, by its place.
-pub fn listed(list: &[u8], place: usize) {
-    let word = item(list, place);
-    text(part(list, word.start, word.end));
-}
-
 pub fn kind(k: u64) {
     let kinds = KINDS;
-    if k < 4 {
-        listed(&kinds, k as usize);
+    if k <= REAL {
+        text(item(&kinds, k));
     } else {
         text(b"kind ");
         number(k);
     }
+}
+
+pub fn vector(k: u64, length: u64) {
+    kind(k);
+    byte(b'[');
+    number(length);
+    byte(b']');
 }
 
 pub fn real(word: u64, view: View) {
@@ -86,10 +78,10 @@ pub fn real(word: u64, view: View) {
 // A word of a kind. A foreign kind has no text of its own.
 pub fn value(k: u64, word: u64, view: View) {
     match k {
-        0 => number(word),
-        1 => signed(word),
-        2 => number(word),
-        3 => real(word, view),
+        BIT => number(word),
+        INTEGER => signed(word),
+        OCTET => number(word),
+        REAL => real(word, view),
         _ => {
             text(b"(kind ");
             number(k);
@@ -101,8 +93,8 @@ pub fn value(k: u64, word: u64, view: View) {
 
 // A name by its text, or by its number where the file has no text for it.
 pub fn name(source: &[u8], names: &[u64; NAME_WORDS], view: View, n: u64) {
-    let place = place_of(names, n as usize);
     if n < view.names as u64 {
+        let place = place_of(names, n as usize);
         text(part(source, place.start, place.end));
     } else {
         byte(b'#');

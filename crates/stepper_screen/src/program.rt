@@ -25,7 +25,7 @@ fn mark(view: View, current: bool) {
 }
 
 // A row's number at the right of three places.
-pub fn row_number(row: usize) {
+fn row_number(row: usize) {
     if row < 10 {
         byte(b' ');
     }

@@ -1,6 +1,5 @@
 // A program's rows as text in the manner of Quil.
 use crate::print::byte;
-use crate::print::listed;
 use crate::print::name;
 use crate::print::number;
 use crate::print::real;
@@ -8,34 +7,45 @@ use crate::print::reference;
 use crate::print::signed;
 use crate::print::text;
 use crate::view::View;
+use stepper_tables::list::item;
+use stepper_tables::list::line_of;
 use stepper_tables::names::NAME_WORDS;
-use stepper_tables::names::word_of;
 use stepper_tables::vocabulary::MNEMONICS;
 use stepper_tables::vocabulary::NODES;
-use stepper_tables::vocabulary::first_of;
+use tables::argument_form;
+use tables::family;
+use tables::node_tag;
+use tables::rows::ARGUMENT_WIDTH;
+use tables::rows::Argument;
 use tables::rows::Instruction;
+use tables::rows::NODE_WIDTH;
+use tables::rows::Node;
+use tables::rows::argument_at;
+use tables::rows::node_at;
+use tables::source;
 
 // A longer expression or argument list is cut.
 const SHOWN: u64 = 24;
 
+// A STORE's first operand is a whole region.
 fn first(source: &[u8], names: &[u64; NAME_WORDS], view: View, x: Instruction) {
     byte(b' ');
-    if x.family == 7 {
+    if x.family == family::STORE {
         name(source, names, view, x.first_name);
     } else {
         reference(source, names, view, x.first_name, x.first_index);
     }
 }
 
-// Comparison, exchange, load and store have a second operand.
+// Comparison, exchange, load and store have a second operand; a LOAD's is a whole region.
 fn second(source: &[u8], names: &[u64; NAME_WORDS], view: View, x: Instruction) {
     let family = x.family;
     match family {
-        1 | 5 | 7 => {
+        family::COMPARISON | family::EXCHANGE | family::STORE => {
             byte(b' ');
             reference(source, names, view, x.second_name, x.second_index)
         }
-        6 => {
+        family::LOAD => {
             byte(b' ');
             name(source, names, view, x.second_name)
         }
@@ -46,15 +56,15 @@ fn second(source: &[u8], names: &[u64; NAME_WORDS], view: View, x: Instruction) 
 fn source_operand(source: &[u8], names: &[u64; NAME_WORDS], view: View, x: Instruction) {
     let form = x.source_form;
     match form {
-        0 => {
+        source::INTEGER_LITERAL => {
             byte(b' ');
             signed(x.source_first)
         }
-        1 => {
+        source::REAL_LITERAL => {
             byte(b' ');
             real(x.source_first, view)
         }
-        2 => {
+        source::REFERENCE => {
             byte(b' ');
             reference(source, names, view, x.source_first, x.source_second)
         }
@@ -72,30 +82,26 @@ pub fn complex(real_bits: u64, imaginary_bits: u64, view: View) {
 }
 
 // A node: a parent by its tag's name, its children after it.
-fn node(source: &[u8], names: &[u64; NAME_WORDS], view: View, tag: u64, one: u64, two: u64) {
+fn node(source: &[u8], names: &[u64; NAME_WORDS], view: View, x: Node) {
     let nodes = NODES;
+    let tag = x.tag;
     byte(b' ');
     match tag {
-        0 => reference(source, names, view, one, two),
-        3 => complex(one, two, view),
-        6 => {
+        node_tag::ADDRESS => reference(source, names, view, x.first, x.second),
+        node_tag::NUMBER => complex(x.first, x.second, view),
+        node_tag::VARIABLE => {
             byte(b'%');
-            name(source, names, view, one)
+            name(source, names, view, x.first)
         }
-        _ => listed(&nodes, (tag % 16) as usize),
+        _ => text(item(&nodes, tag)),
     }
 }
 
-fn node_row(source: &[u8], names: &[u64; NAME_WORDS], view: View, nodes: &[u64], row: u64) {
-    let at = (row % 0x10000) as usize * 3;
-    node(
-        source,
-        names,
-        view,
-        word_of(nodes, at),
-        word_of(nodes, at + 1),
-        word_of(nodes, at + 2),
-    );
+// A node that the table has.
+fn node_row(source: &[u8], names: &[u64; NAME_WORDS], view: View, nodes: &[u64], row: usize) {
+    if row < nodes.len() / NODE_WIDTH {
+        node(source, names, view, node_at(nodes, row));
+    }
 }
 
 fn expression(
@@ -117,39 +123,33 @@ fn expression(
             names,
             view,
             nodes,
-            std::num::wrapping_add_u64(first_node, i),
+            std::num::wrapping_add_u64(first_node, i) as usize,
         );
         i += 1;
     }
 }
 
-// An argument by its three words.
-pub fn argument(
-    source: &[u8],
-    names: &[u64; NAME_WORDS],
-    view: View,
-    form: u64,
-    one: u64,
-    two: u64,
-) {
+pub fn argument(source: &[u8], names: &[u64; NAME_WORDS], view: View, x: Argument) {
+    let form = x.form;
     match form {
-        0 => name(source, names, view, one),
-        1 => reference(source, names, view, one, two),
-        _ => complex(one, two, view),
+        argument_form::IDENTIFIER => name(source, names, view, x.first),
+        argument_form::REFERENCE => reference(source, names, view, x.first, x.second),
+        _ => complex(x.first, x.second, view),
     }
 }
 
-fn argument_row(source: &[u8], names: &[u64; NAME_WORDS], view: View, arguments: &[u64], row: u64) {
-    let at = (row % 0x10000) as usize * 3;
-    byte(b' ');
-    argument(
-        source,
-        names,
-        view,
-        word_of(arguments, at),
-        word_of(arguments, at + 1),
-        word_of(arguments, at + 2),
-    );
+// An argument that the table has.
+fn argument_row(
+    source: &[u8],
+    names: &[u64; NAME_WORDS],
+    view: View,
+    arguments: &[u64],
+    row: usize,
+) {
+    if row < arguments.len() / ARGUMENT_WIDTH {
+        byte(b' ');
+        argument(source, names, view, argument_at(arguments, row));
+    }
 }
 
 fn argument_list(
@@ -171,7 +171,7 @@ fn argument_list(
             names,
             view,
             arguments,
-            std::num::wrapping_add_u64(first_argument, i),
+            std::num::wrapping_add_u64(first_argument, i) as usize,
         );
         i += 1;
     }
@@ -180,13 +180,14 @@ fn argument_list(
 // A family or an operator that there is not is shown by its numbers.
 fn mnemonic(family: u64, operator: u64) {
     let mnemonics = MNEMONICS;
-    if (family > 10) | (operator > 5) {
+    let word = item(line_of(&mnemonics, family), operator);
+    if word.len() > 0 {
+        text(word);
+    } else {
         text(b"family ");
         number(family);
         text(b" operator ");
         number(operator);
-    } else {
-        listed(&mnemonics, first_of(family) % 32 + (operator % 8) as usize);
     }
 }
 
@@ -207,13 +208,13 @@ pub fn row_text(
     let family = x.family;
     mnemonic(family, x.operator);
     match family {
-        8 => expression(source, names, view, nodes, x.first_name, x.first_index),
-        9 => {
+        family::FRAME => expression(source, names, view, nodes, x.first_name, x.first_index),
+        family::CALL => {
             byte(b' ');
             name(source, names, view, x.first_name);
             argument_list(source, names, view, arguments, x.first_index, x.second_name)
         }
-        10 => {}
+        family::OTHER => {}
         _ => operands(source, names, view, x),
     }
 }

@@ -5,11 +5,21 @@ use crate::print::number;
 use crate::print::style;
 use crate::print::text;
 use crate::view::View;
+use tables::refusal::AT_END;
+use tables::refusal::BUFFER_SIZE;
+use tables::refusal::INDEX_PAST_LENGTH;
+use tables::refusal::JOURNAL_FULL;
+use tables::refusal::NEGATIVE_SHIFT_COUNT;
+use tables::refusal::TABLE_SHAPE;
+use tables::refusal::TOO_MANY_CELLS;
+use tables::refusal::TYPE_ERROR;
+use tables::refusal::UNFIT_REPLY;
 
-// A line for each number, from 1.
+// A line for each number; there is no refusal 0.
 pub fn cause(refusal: u64) {
     line(
-        b"a table is not whole rows, or has more rows than its limit\n\
+        b"\n\
+        a table is not whole rows, or has more rows than its limit\n\
         a word is not allowed where it stands, a range lies outside its table, or the chosen row is absent or of another family\n\
         two regions or two externs have one name\n\
         a lent buffer is too short, or the journal is not whole entries or too long\n\
@@ -28,32 +38,20 @@ pub fn cause(refusal: u64) {
         the reply does not fit the CALL, or there is one and the row is no CALL\n\
         a cell that is read has no rule: its kind or its word is foreign; or a name is not declared\n\
         the position lies past its tables, or the journal cannot be read",
-        std::num::wrapping_sub_u64(refusal, 1),
+        refusal,
     );
 }
 
-// Who can mend it, as a place in the list below.
-fn party(refusal: u64) -> u64 {
-    match refusal {
-        0..=4 => 0,
-        5..=10 => 1,
-        11..=13 => 2,
-        14..=16 => 3,
-        17 => 4,
-        _ => 5,
-    }
-}
-
+// Who can mend it.
 pub fn mender(refusal: u64) {
-    line(
-        b"the loader\n\
-        the program's author\n\
-        the student\n\
-        the running program\n\
-        the extern routine\n\
-        the foreign writer",
-        party(refusal),
-    );
+    match refusal {
+        TABLE_SHAPE..=BUFFER_SIZE => text(b"the loader"),
+        TYPE_ERROR..=TOO_MANY_CELLS => text(b"the program's author"),
+        AT_END..=JOURNAL_FULL => text(b"the student"),
+        INDEX_PAST_LENGTH..=NEGATIVE_SHIFT_COUNT => text(b"the running program"),
+        UNFIT_REPLY => text(b"the extern routine"),
+        _ => text(b"the foreign writer"),
+    }
 }
 
 pub fn refused(refusal: u64, view: View) {

@@ -5,50 +5,56 @@ use crate::print::name;
 use crate::print::number;
 use crate::print::reference;
 use crate::print::text;
+use crate::print::vector;
 use crate::quil::complex;
 use crate::view::View;
+use extern_call::rows::RESOLVED_WIDTH;
 use stepper_tables::names::NAME_WORDS;
-use stepper_tables::names::word_of;
 
-fn vector(source: &[u8], names: &[u64; NAME_WORDS], view: View, n: u64, k: u64, length: u64) {
-    name(source, names, view, n);
-    byte(b' ');
-    kind(k);
-    byte(b'[');
-    number(length);
-    byte(b']');
-}
+// What a resolved row is, by its first word; any other is an immediate.
+pub const VECTOR: u64 = 0;
 
-fn scalar(source: &[u8], names: &[u64; NAME_WORDS], view: View, n: u64, index: u64, k: u64) {
-    reference(source, names, view, n, index);
-    byte(b' ');
-    kind(k);
-}
+const MEMORY_REFERENCE: u64 = 1;
 
-fn immediate(view: View, real: u64, imaginary: u64, k: u64) {
-    complex(real, imaginary, view);
-    text(b" as ");
-    kind(k);
-}
-
-fn resolved(source: &[u8], names: &[u64; NAME_WORDS], view: View, rows: &[u64], argument: u64) {
-    let at = (argument % 0x10000) as usize * 5;
-    let form = word_of(rows, at);
-    let one = word_of(rows, at + 1);
-    let two = word_of(rows, at + 2);
-    let three = word_of(rows, at + 3);
-    text(b"  ");
-    number(argument);
-    text(b": ");
+// A row's words before the one that says whether it is mutable.
+fn resolved(source: &[u8], names: &[u64; NAME_WORDS], view: View, words: [u64; 4]) {
+    let form = words[0];
     match form {
-        0 => vector(source, names, view, one, two, three),
-        1 => scalar(source, names, view, one, two, three),
-        _ => immediate(view, one, two, three),
+        VECTOR => {
+            name(source, names, view, words[1]);
+            byte(b' ');
+            vector(words[2], words[3])
+        }
+        MEMORY_REFERENCE => {
+            reference(source, names, view, words[1], words[2]);
+            byte(b' ');
+            kind(words[3])
+        }
+        _ => {
+            complex(words[1], words[2], view);
+            text(b" as ");
+            kind(words[3])
+        }
     }
-    if word_of(rows, at + 4) == 1 {
-        text(b", mutable");
+}
+
+fn resolved_row(source: &[u8], names: &[u64; NAME_WORDS], view: View, rows: &[u64], row: usize) {
+    if row < rows.len() / RESOLVED_WIDTH {
+        let at = row * RESOLVED_WIDTH;
+        text(b"  ");
+        number(row as u64);
+        text(b": ");
+        resolved(
+            source,
+            names,
+            view,
+            [rows[at], rows[at + 1], rows[at + 2], rows[at + 3]],
+        );
+        if rows[at + 4] == 1 {
+            text(b", mutable");
+        }
+        byte(b'\n');
     }
-    byte(b'\n');
 }
 
 // The resolved arguments, a line each.
@@ -61,7 +67,7 @@ pub fn show_resolved(
 ) {
     let mut i = 0;
     while i < count {
-        resolved(source, names, view, rows, i as u64);
+        resolved_row(source, names, view, rows, i);
         i += 1;
     }
 }

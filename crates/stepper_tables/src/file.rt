@@ -1,186 +1,215 @@
 // A file into the six tables, line by line.
-ghost use Prim.Native.Nat.{_<_};
-use crate::list::index_of;
+ghost use Prim.Native.Nat.{_≤_};
+use crate::heading::Heading;
+use crate::heading::Table;
+use crate::heading::heading_of;
 use crate::names::NAME_WORDS;
-use crate::row::COUNT;
-use crate::row::NO_HEADING;
-use crate::row::NONE;
+use crate::row::Outcome;
+use crate::row::ROW_WORDS;
 use crate::row::Row;
-use crate::row::TOO_MANY_ROWS;
+use crate::row::Trouble;
 use crate::row::read_row;
-use crate::vocabulary::HEADINGS;
-use crate::vocabulary::JOURNAL;
-use crate::vocabulary::LOOSE;
-use crate::vocabulary::MEMORY;
-use script::fill::put;
 use script::line::Line;
 use script::line::Word;
 use script::line::line_at;
 use script::line::part;
 use script::line::word_at;
 
+pub const TABLES: usize = 6;
+
 // Words of room for each table, more than any limit allows. The six lie one after the other.
 pub const ROOM: usize = 6200;
 
-pub const TABLE_WORDS: usize = 37200;
+pub const TABLE_WORDS: usize = TABLES * ROOM;
 
 const DEFAULT_ENTRIES: usize = 64;
 
-// No length was asked for.
-pub const UNSET: usize = 1000000;
+// The memory to lend: exactly enough for the cells, or so many words.
+pub enum Memory {
+    Enough,
+    Words(usize),
+}
 
-// What was read so far: the table whose rows come next, the line, what is wrong there, the names, the tables' lengths in words, the lengths asked for.
+// What was read so far: the heading under which rows stand, the line and whether it is taken, the names, the tables' lengths in words, what is to be lent.
 pub struct Reader {
-    pub table: usize,
+    pub heading: Heading,
     pub line: usize,
-    pub trouble: u8,
+    pub outcome: Outcome,
     pub names: usize,
-    pub lengths: [usize; 6],
-    pub memory: usize,
+    pub lengths: [usize; TABLES],
+    pub memory: Memory,
     pub entries: usize,
 }
 
 fn start() -> Reader {
     Reader {
-        table: MEMORY,
+        heading: Heading::Nothing,
         line: 0,
-        trouble: NONE,
+        outcome: Outcome::Taken,
         names: 0,
-        lengths: [0; 6],
-        memory: UNSET,
+        lengths: [0; TABLES],
+        memory: Memory::Enough,
         entries: DEFAULT_ENTRIES,
     }
 }
 
 impl Reader {
-    fn troubled(self, trouble: u8) -> Reader {
-        let mut next = self;
-        next.trouble = trouble;
-        next
+    fn told(self, outcome: Outcome) -> Reader {
+        let heading = self.heading;
+        let lengths = self.lengths;
+        let memory = self.memory;
+        Reader {
+            heading,
+            line: self.line,
+            outcome,
+            names: self.names,
+            lengths,
+            memory,
+            entries: self.entries,
+        }
     }
 
-    fn headed(self, table: usize) -> Reader {
+    fn troubled(self, trouble: Trouble) -> Reader {
+        self.told(Outcome::Not(trouble))
+    }
+
+    fn headed(self, table: Table) -> Reader {
+        let outcome = self.outcome;
+        let lengths = self.lengths;
+        let memory = self.memory;
+        Reader {
+            heading: Heading::Of(table),
+            line: self.line,
+            outcome,
+            names: self.names,
+            lengths,
+            memory,
+            entries: self.entries,
+        }
+    }
+
+    fn lending(self, memory: Memory) -> Reader {
+        let heading = self.heading;
+        let outcome = self.outcome;
+        let lengths = self.lengths;
+        Reader {
+            heading,
+            line: self.line,
+            outcome,
+            names: self.names,
+            lengths,
+            memory,
+            entries: self.entries,
+        }
+    }
+
+    fn with_entries(self, entries: usize) -> Reader {
         let mut next = self;
-        next.table = table;
+        next.entries = entries;
         next
     }
 
     fn named(self, row: Row) -> Reader {
-        let mut next = self;
+        let outcome = row.outcome;
+        let mut next = self.told(outcome);
         next.names = row.names;
-        next.trouble = row.trouble;
-        next
-    }
-
-    fn asked(self, heading: usize, n: u64) -> Reader {
-        let mut next = self;
-        if heading == MEMORY {
-            next.memory = n as usize;
-        } else {
-            next.entries = n as usize;
-        }
         next
     }
 }
 
-// How many words a row has under a heading.
-fn width(heading: usize) -> usize {
-    match heading {
-        0 => 3,
-        1 => 4,
-        2 => 5,
-        3 => 3,
-        4 => 3,
-        5 => 9,
-        6 => 1,
-        7 => 1,
-        8 => 3,
-        9 => 4,
-        _ => 2,
-    }
-}
-
-fn store(tables: &mut [u64; TABLE_WORDS], first: usize, words: [u64; 16]) {
+fn store(tables: &mut [u64; TABLE_WORDS], first: usize, words: [u64; ROW_WORDS])
+    requires { ⌜ first ≤ 37184 ⌝ }
+{
     let mut i = 0;
-    while i < 16 {
-        put(tables, std::num::wrapping_add_usize(first, i), words[i]);
+    while i < ROW_WORDS {
+        tables[first + i] = words[i];
         i += 1;
     }
 }
 
-// The row's words at the end of the current table.
-fn append(tables: &mut [u64; TABLE_WORDS], row: Row, reader: Reader) -> Reader {
-    let mut next = reader;
-    let table = next.table;
-    if table >= MEMORY {
-        return reader.troubled(NO_HEADING);
-    }
-    let mut lengths = next.lengths;
-    let length = lengths[table];
-    if length > ROOM - 16 {
-        return reader.troubled(TOO_MANY_ROWS);
+// The row's words at the end of a table.
+fn append(tables: &mut [u64; TABLE_WORDS], table: Table, row: Row, reader: Reader) -> Reader
+    requires { ⌜ row .count ≤ 16 ⌝ }
+{
+    let mut lengths = reader.lengths;
+    let number = table.number();
+    let length = lengths[number];
+    if length > ROOM - ROW_WORDS {
+        return reader.troubled(Trouble::TooManyRows);
     }
     let words = row.words;
-    store(tables, table * ROOM + length, words);
-    lengths[table] = length + row.count % 17;
+    store(tables, number * ROOM + length, words);
+    lengths[number] = length + row.count;
+    let mut next = reader;
     next.lengths = lengths;
     next
 }
 
-fn whole_row(tables: &mut [u64; TABLE_WORDS], row: Row, reader: Reader) -> Reader {
-    if (reader.table < MEMORY) & (row.count != width(reader.table)) {
-        return reader.troubled(COUNT);
+// Words of the table whose heading came last: a whole row, or as many as there are.
+fn table_words(tables: &mut [u64; TABLE_WORDS], whole: bool, row: Row, reader: Reader) -> Reader
+    requires { ⌜ row .count ≤ 16 ⌝ }
+{
+    let heading = reader.heading;
+    let Heading::Of(table) = heading else {
+        return reader.troubled(Trouble::NoHeading);
+    };
+    if whole & (row.count != table.width()) {
+        return reader.troubled(Trouble::Count);
     }
-    append(tables, row, reader)
+    append(tables, table, row, reader)
 }
 
-// A heading that is no table's: what follows on its line.
-fn setting(tables: &mut [u64; TABLE_WORDS], heading: usize, row: Row, reader: Reader) -> Reader {
-    if heading == LOOSE {
-        return append(tables, row, reader);
-    }
-    if row.count != width(heading) {
-        return reader.troubled(COUNT);
+// A line that is no table's.
+fn setting(heading: Heading, row: Row, reader: Reader) -> Reader {
+    if row.count != heading.width() {
+        return reader.troubled(Trouble::Count);
     }
     let words = row.words;
-    if (heading == MEMORY) | (heading == JOURNAL) {
-        return reader.asked(heading, words[0]);
+    match heading {
+        Heading::Memory => reader.lending(Memory::Words(words[0] as usize)),
+        Heading::Journal => reader.with_entries(words[0] as usize),
+        _ => reader,
     }
-    reader
+}
+
+fn take(tables: &mut [u64; TABLE_WORDS], heading: Heading, row: Row, reader: Reader) -> Reader
+    requires { ⌜ row .count ≤ 16 ⌝ }
+{
+    let outcome = row.outcome;
+    if !outcome.is_taken() {
+        return reader;
+    }
+    match heading {
+        Heading::Loose => table_words(tables, false, row, reader),
+        Heading::Nothing => table_words(tables, true, row, reader),
+        _ => setting(heading, row, reader),
+    }
 }
 
 // A table's heading stands alone.
-fn table_heading(text: &[u8], heading: usize, word: Word, end: usize, reader: Reader) -> Reader {
-    let more = word_at(text, word.end, end);
+fn table_heading(text: &[u8], table: Table, at: usize, end: usize, reader: Reader) -> Reader {
+    let more = word_at(text, at, end);
     if more.start < more.end {
-        return reader.troubled(COUNT);
+        return reader.troubled(Trouble::Count);
     }
-    reader.headed(heading)
+    reader.headed(table)
 }
 
-fn after_heading(
-    text: &[u8],
-    names: &mut [u64; NAME_WORDS],
-    tables: &mut [u64; TABLE_WORDS],
-    heading: usize,
-    word: Word,
-    end: usize,
-    reader: Reader,
-) -> Reader {
-    if heading < MEMORY {
-        return table_heading(text, heading, word, end, reader);
+// The heading whose words stand on the line.
+fn under(heading: Heading, reader: Reader) -> Heading {
+    match heading {
+        Heading::Loose => reader.heading,
+        Heading::Nothing => reader.heading,
+        _ => heading,
     }
-    let under = if heading == LOOSE {
-        reader.table
-    } else {
-        heading
-    };
-    let row = read_row(text, names, under, word.end, end, reader.names);
-    let next = reader.named(row);
-    if row.trouble != NONE {
-        return next;
+}
+
+// A row begins with the line's first word, any other line after it.
+fn first_place(heading: Heading, word: Word) -> usize {
+    match heading {
+        Heading::Nothing => word.start,
+        _ => word.end,
     }
-    setting(tables, heading, row, next)
 }
 
 fn read_line(
@@ -194,24 +223,19 @@ fn read_line(
     if word.start >= word.end {
         return reader;
     }
-    let headings = HEADINGS;
-    let heading = index_of(&headings, part(text, word.start, word.end));
-    if heading <= LOOSE {
-        return after_heading(text, names, tables, heading, word, line.end, reader);
+    let heading = heading_of(part(text, word.start, word.end));
+    if let Heading::Of(table) = heading {
+        return table_heading(text, table, word.end, line.end, reader);
     }
     let row = read_row(
         text,
         names,
-        reader.table,
-        line.start,
+        under(heading, reader),
+        first_place(heading, word),
         line.end,
         reader.names,
     );
-    let next = reader.named(row);
-    if row.trouble != NONE {
-        return next;
-    }
-    whole_row(tables, row, next)
+    take(tables, heading, row, reader.named(row))
 }
 
 // Reads up to the first line that is not taken. No line is shorter than a byte.
@@ -224,7 +248,8 @@ pub fn read_file(
     let mut at = 0;
     let mut left = text.len();
     while left > 0 {
-        if (at >= text.len()) | (reader.trouble != NONE) {
+        let outcome = reader.outcome;
+        if (at >= text.len()) | !outcome.is_taken() {
             break;
         }
         let line = line_at(text, at);

@@ -1,24 +1,30 @@
 // Names: numbered from 0 by first use, kept as their places in the text.
-use script::fill::put;
+ghost use Prim.Native.Nat.{_<_};
 use script::line::Word;
 use script::line::part;
 use script::line::same;
 
 pub const MOST_NAMES: usize = 1024;
 
-pub const NAME_WORDS: usize = 2048;
+// Where a name begins, and where it ends.
+const NAME_WIDTH: usize = 2;
+
+pub const NAME_WORDS: usize = NAME_WIDTH * MOST_NAMES;
 
 // The word at a place, 0 past the end.
 pub fn word_of(words: &[u64], i: usize) -> u64 {
     if i < words.len() { words[i] } else { 0 }
 }
 
-// Where name n stands in the text.
+// Where name n stands in the text; nowhere, where it is none of the names that are kept.
 pub fn place_of(names: &[u64; NAME_WORDS], n: usize) -> Word {
-    let at = n % MOST_NAMES * 2;
+    if n >= MOST_NAMES {
+        return Word { start: 0, end: 0 };
+    }
+    let at = n * NAME_WIDTH;
     Word {
-        start: word_of(names, at) as usize,
-        end: word_of(names, at + 1) as usize,
+        start: names[at] as usize,
+        end: names[at + 1] as usize,
     }
 }
 
@@ -39,8 +45,10 @@ pub fn known(text: &[u8], names: &[u64; NAME_WORDS], count: usize, word: &[u8]) 
     count
 }
 
-pub fn keep(names: &mut [u64; NAME_WORDS], n: usize, word: Word) {
-    let at = n % MOST_NAMES * 2;
-    put(names, at, word.start as u64);
-    put(names, at + 1, word.end as u64);
+pub fn keep(names: &mut [u64; NAME_WORDS], n: usize, word: Word)
+    requires { ⌜ n < 1024 ⌝ }
+{
+    let at = n * NAME_WIDTH;
+    names[at] = word.start as u64;
+    names[at + 1] = word.end as u64;
 }

@@ -1,12 +1,12 @@
 // What a foreign writer leaves in memory, journal and position: the lines `cell`, `entry` and `position`, after open.
-use crate::list::index_of;
+use crate::heading::Heading;
+use crate::heading::heading_of;
 use crate::names::NAME_WORDS;
-use crate::row::Row;
+use crate::row::ROW_WORDS;
 use crate::row::read_row;
-use crate::vocabulary::CELL;
-use crate::vocabulary::ENTRY;
-use crate::vocabulary::HEADINGS;
-use crate::vocabulary::POSITION;
+use journal::cells::CELL_WIDTH;
+use journal::cells::Write;
+use journal::entries::ENTRY_WIDTH;
 use journal::position::Position;
 use script::fill::put;
 use script::line::Line;
@@ -14,46 +14,43 @@ use script::line::line_at;
 use script::line::part;
 use script::line::word_at;
 
-// A number past every cell and entry stays past them.
-fn capped(n: u64) -> usize {
-    if n < 0x10000 { n as usize } else { 0xFFFF }
-}
-
-fn put_cell(memory: &mut [u64], words: [u64; 16]) {
-    let at = capped(words[0]) % 0x10000 * 2;
-    put(memory, at, words[1]);
-    put(memory, at + 1, words[2]);
-}
-
-fn put_entry(journal: &mut [u64], words: [u64; 16]) {
-    let at = capped(words[0]) % 0x10000 * 3;
-    put(journal, at, words[1]);
-    put(journal, at + 1, words[2]);
-    put(journal, at + 2, words[3]);
-}
-
-fn plant_row(
-    heading: usize,
-    row: Row,
-    memory: &mut [u64],
-    journal: &mut [u64],
-    position: Position,
-) -> Position {
-    let words = row.words;
-    match heading {
-        CELL => {
-            put_cell(memory, words);
-            position
-        }
-        ENTRY => {
-            put_entry(journal, words);
-            position
-        }
-        _ => Position {
-            done: words[0] as usize,
-            used: words[1] as usize,
-        },
+// A cell that the memory has.
+fn put_cell(memory: &mut [u64], words: [u64; ROW_WORDS]) {
+    let cell = words[0] as usize;
+    if cell < memory.len() / CELL_WIDTH {
+        journal::cells::put_cell(
+            memory,
+            Write {
+                cell,
+                kind: words[1],
+                word: words[2],
+            },
+        );
     }
+}
+
+// An entry that the journal has.
+fn put_entry(journal: &mut [u64], words: [u64; ROW_WORDS]) {
+    let entry = words[0] as usize;
+    if entry < journal.len() / ENTRY_WIDTH {
+        let at = entry * ENTRY_WIDTH;
+        put(journal, at, words[1]);
+        put(journal, at + 1, words[2]);
+        put(journal, at + 2, words[3]);
+    }
+}
+
+// The words after the heading.
+fn words_after(
+    text: &[u8],
+    names: &mut [u64; NAME_WORDS],
+    known_names: usize,
+    at: usize,
+    end: usize,
+) -> [u64; ROW_WORDS] {
+    let row = read_row(text, names, Heading::Cell, at, end, known_names);
+    let words = row.words;
+    words
 }
 
 fn plant_line(
@@ -66,13 +63,31 @@ fn plant_line(
     position: Position,
 ) -> Position {
     let word = word_at(text, line.start, line.end);
-    let headings = HEADINGS;
-    let heading = index_of(&headings, part(text, word.start, word.end));
-    if (heading < CELL) | (heading > POSITION) {
-        return position;
+    let heading = heading_of(part(text, word.start, word.end));
+    match heading {
+        Heading::Cell => {
+            put_cell(
+                memory,
+                words_after(text, names, known_names, word.end, line.end),
+            );
+            position
+        }
+        Heading::Entry => {
+            put_entry(
+                journal,
+                words_after(text, names, known_names, word.end, line.end),
+            );
+            position
+        }
+        Heading::Position => {
+            let words = words_after(text, names, known_names, word.end, line.end);
+            Position {
+                done: words[0] as usize,
+                used: words[1] as usize,
+            }
+        }
+        _ => position,
     }
-    let row = read_row(text, names, heading, word.end, line.end, known_names);
-    plant_row(heading, row, memory, journal, position)
 }
 
 // The position after all lines of a text that `read_file` took.

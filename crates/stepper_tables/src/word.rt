@@ -1,42 +1,37 @@
 // One word of a file.
-use crate::list::ABSENT;
+use crate::heading::Heading;
+use crate::heading::Table;
+use crate::list::Listed;
 use crate::list::index_of;
-use crate::vocabulary::INSTRUCTIONS;
 use crate::vocabulary::MNEMONICS;
 use crate::vocabulary::number_of;
-use crate::vocabulary::operation_at;
-use real_text::decimal::TOO_LONG;
 use real_text::decimal::read_decimal;
 use script::line::byte_at;
+use script::line::line_at;
+use script::line::part;
 use script::line::same;
-use script::number::PAST;
 use script::number::read_number;
+use tables::family;
 
-// What a word gives: one number, two of them, a name; or why it gives none.
-pub const ONE: u8 = 0;
-
-pub const TWO: u8 = 1;
-
-pub const NAME: u8 = 2;
-
-pub const NO_WORD: u8 = 3;
-
-pub const TOO_LARGE: u8 = 4;
-
-pub const TOO_MANY_DIGITS: u8 = 5;
-
-pub struct Value {
-    pub kind: u8,
-    pub first: u64,
-    pub second: u64,
+// Why a word is not taken.
+pub enum Fault {
+    NoWord,
+    TooLarge,
+    TooManyDigits,
 }
 
-fn gives(kind: u8, first: u64) -> Value {
-    Value {
-        kind,
-        first,
-        second: 0,
-    }
+// A word as a number.
+pub enum Written {
+    Word(u64),
+    Not(Fault),
+}
+
+// What a word gives: one number, two of them, a name.
+pub enum Value {
+    One(u64),
+    Two(u64, u64),
+    Name,
+    Not(Fault),
 }
 
 fn is_digit(byte: u8) -> bool {
@@ -79,32 +74,28 @@ fn is_name(word: &[u8]) -> bool {
 }
 
 // A short decimal as its REAL word.
-pub fn decimal(word: &[u8]) -> Value {
+pub fn decimal(word: &[u8]) -> Written {
     let reading = read_decimal(word);
-    if reading.kind == real_text::decimal::READ {
-        return gives(ONE, reading.word);
+    match reading {
+        real_text::decimal::Reading::Word(bits) => Written::Word(bits),
+        real_text::decimal::Reading::TooLong => Written::Not(Fault::TooManyDigits),
+        real_text::decimal::Reading::NoDecimal => Written::Not(Fault::NoWord),
     }
-    if reading.kind == TOO_LONG {
-        return gives(TOO_MANY_DIGITS, 0);
-    }
-    gives(NO_WORD, 0)
 }
 
-pub fn integer(word: &[u8]) -> Value {
+pub fn integer(word: &[u8]) -> Written {
     let reading = read_number(word);
-    if reading.kind == script::number::READ {
-        return gives(ONE, reading.word);
+    match reading {
+        script::number::Reading::Number(n) => Written::Word(n),
+        script::number::Reading::Past => Written::Not(Fault::TooLarge),
+        script::number::Reading::NoNumber => Written::Not(Fault::NoWord),
     }
-    if reading.kind == PAST {
-        return gives(TOO_LARGE, 0);
-    }
-    gives(NO_WORD, 0)
 }
 
 // A word that begins as a number does; `-` alone is an unused word.
-pub fn number(word: &[u8]) -> Value {
+fn number(word: &[u8]) -> Written {
     if same(word, b"-") {
-        return gives(ONE, 0);
+        return Written::Word(0);
     }
     if has_point(word) {
         return decimal(word);
@@ -112,33 +103,56 @@ pub fn number(word: &[u8]) -> Value {
     integer(word)
 }
 
-fn mnemonic(word: &[u8]) -> Value {
-    let mnemonics = MNEMONICS;
-    let place = index_of(&mnemonics, word);
-    if place == ABSENT {
-        return gives(NAME, 0);
-    }
-    let x = operation_at(place);
-    Value {
-        kind: TWO,
-        first: x.family,
-        second: x.operator,
+fn one(number: Written) -> Value {
+    match number {
+        Written::Word(word) => Value::One(word),
+        Written::Not(fault) => Value::Not(fault),
     }
 }
 
-pub fn read_word(word: &[u8], heading: usize) -> Value {
-    if starts_number(word) {
-        return number(word);
+// The family and operator of a mnemonic; any other word is a name.
+fn operation(mnemonics: &[u8], word: &[u8]) -> Value {
+    let mut at = 0;
+    let mut family = 0;
+    while family <= family::OTHER {
+        let line = line_at(mnemonics, at);
+        let listed = index_of(part(mnemonics, line.start, line.end), word);
+        if let Listed::At(operator) = listed {
+            return Value::Two(family, operator as u64);
+        }
+        at = line.next;
+        family += 1;
     }
-    let n = number_of(heading, word);
-    if n < ABSENT {
-        return gives(ONE, n as u64);
+    Value::Name
+}
+
+// Mnemonics stand among the instructions.
+fn in_table(table: Table, word: &[u8]) -> Value {
+    let mnemonics = MNEMONICS;
+    match table {
+        Table::Instructions => operation(&mnemonics, word),
+        _ => Value::Name,
     }
+}
+
+// A word that is no number and stands for none in its place.
+fn named(heading: Heading, word: &[u8]) -> Value {
     if !is_name(word) {
-        return gives(NO_WORD, 0);
+        return Value::Not(Fault::NoWord);
     }
-    if heading == INSTRUCTIONS {
-        return mnemonic(word);
+    match heading {
+        Heading::Of(table) => in_table(table, word),
+        _ => Value::Name,
     }
-    gives(NAME, 0)
+}
+
+pub fn read_word(word: &[u8], heading: Heading) -> Value {
+    if starts_number(word) {
+        return one(number(word));
+    }
+    let listed = number_of(heading, word);
+    match listed {
+        Listed::At(n) => Value::One(n as u64),
+        Listed::Absent => named(heading, word),
+    }
 }

@@ -15,11 +15,14 @@ loop-holds c = search needs
 token-at-requires : tie.Need-token-at-requires Inv-loop μ-loop
 token-at-requires c κs = search needs
 
+is-end-requires : tie.Need-is-end-requires Inv-loop μ-loop
+is-end-requires c κs = search needs
+
 returns : tie.Need-returns Inv-loop μ-loop
 returns c = search needs
 
-sign-of-requires : tie.Need-sign-of-requires Inv-loop μ-loop
-sign-of-requires c κs = search needs
+sign-requires : tie.Need-sign-requires Inv-loop μ-loop
+sign-requires c κs = search needs
 
 command-requires : tie.Need-command-requires Inv-loop μ-loop
 command-requires c κs = search needs
@@ -44,8 +47,9 @@ play-spec =
     μ-loop
     loop-holds
     token-at-requires
+    is-end-requires
     returns
-    sign-of-requires
+    sign-requires
     command-requires
     sub-turns
     loop-less

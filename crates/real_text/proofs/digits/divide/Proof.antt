@@ -16,6 +16,9 @@ loop-holds c = search needs
 compare-requires : tie.Need-compare-requires Inv-loop μ-loop
 compare-requires c κs = search needs
 
+is-less-requires : tie.Need-is-less-requires Inv-loop μ-loop
+is-less-requires c κs = search needs
+
 subtract-scale-requires : tie.Need-subtract-scale-requires Inv-loop μ-loop
 subtract-scale-requires c κs = search needs
 
@@ -42,6 +45,7 @@ divide-spec =
     μ-loop
     loop-holds
     compare-requires
+    is-less-requires
     subtract-scale-requires
     add-digit
     loop-less

@@ -1,4 +1,4 @@
--- `script::fill::fill` is safe and ends. The lent slice keeps its length; the measure is the count of numbers that are left. Assumes nothing.
+-- `script::fill::fill` is safe and ends. Assumes nothing.
 use mathlib.Core.Path.{_≡_}
 use Prim.Native.Nat.{_-_}
 use lib.ListN.{length}
@@ -17,6 +17,9 @@ loop-holds c = search needs
 
 token-at-requires : tie.Need-token-at-requires Inv-loop μ-loop
 token-at-requires c κs = search needs
+
+enum-known-found : tie.Need-enum-known-found Inv-loop μ-loop
+enum-known-found c = search needs
 
 put-requires : tie.Need-put-requires Inv-loop μ-loop
 put-requires c κs = search needs
@@ -50,6 +53,7 @@ fill-spec =
     μ-loop
     loop-holds
     token-at-requires
+    enum-known-found
     put-requires
     add-i
     loop-less

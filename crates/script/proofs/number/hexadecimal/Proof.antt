@@ -11,17 +11,11 @@ Inv-loop text so-far₀ i₀ so-far i = Unit {0}
 abbrev μ-loop : tie.MeasureT-loop
 μ-loop text so-far₀ i₀ so-far i = length text - i
 
-failed-requires : tie.Need-failed-requires Inv-loop μ-loop
-failed-requires c κs = search needs
-
 loop-holds : tie.Need-loop-holds Inv-loop μ-loop
 loop-holds c = search needs
 
 byte-at-requires : tie.Need-byte-at-requires Inv-loop μ-loop
 byte-at-requires c κs = search needs
-
-digit-requires : tie.Need-digit-requires Inv-loop μ-loop
-digit-requires c κs = search needs
 
 append-requires : tie.Need-append-requires Inv-loop μ-loop
 append-requires c κs = search needs
@@ -44,10 +38,8 @@ hexadecimal-spec =
     (tie.spec
     Inv-loop
     μ-loop
-    failed-requires
     loop-holds
     byte-at-requires
-    digit-requires
     append-requires
     add-i
     loop-less

@@ -1,4 +1,4 @@
--- `desk::about::set` is safe and ends. Assumes nothing.
+-- `stepper_desk::about::set` is safe and ends. Assumes nothing.
 use Prim.Native.Nat.{_-_}
 use borrow.Author.Needs.{needs}
 use Rattle.stepper_desk.proofs.about.set.Statement.{statement}

@@ -1,4 +1,4 @@
--- `desk::about::show_references` is safe and ends. Assumes nothing.
+-- `stepper_desk::about::show_references` is safe and ends. Assumes nothing.
 use borrow.Author.Needs.{needs}
 use Rattle.stepper_desk.proofs.about.show_references.Statement.{statement}
 use Rattle.stepper_desk.proofs.about.show_references.Tie as tie

@@ -1,4 +1,4 @@
--- `desk::explain::first_bad_call` is safe and ends. Assumes nothing.
+-- `stepper_desk::explain::first_bad_call` is safe and ends. Assumes nothing.
 use Prim.Native.Nat.{_-_}
 use borrow.Author.Needs.{needs}
 use Rattle.stepper_desk.proofs.explain.first_bad_call.Statement.{statement}

@@ -1,4 +1,4 @@
--- `desk::input::read_line` is safe and ends. Assumes nothing.
+-- `stepper_desk::input::read_line` is safe and ends. Assumes nothing.
 use borrow.Author.Needs.{needs}
 use Rattle.stepper_desk.proofs.input.read_line.Statement.{statement}
 use Rattle.stepper_desk.proofs.input.read_line.Tie as tie

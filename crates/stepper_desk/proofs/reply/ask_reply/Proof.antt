@@ -1,19 +1,29 @@
--- `desk::reply::ask_reply` is safe and ends. Assumes nothing.
+-- `stepper_desk::reply::ask_reply` is safe and ends. Assumes nothing.
+use Prim.Native.Nat.{_≤_}
 use borrow.Author.Needs.{needs}
 use Rattle.stepper_desk.proofs.reply.ask_reply.Statement.{statement}
 use Rattle.stepper_desk.proofs.reply.ask_reply.Tie as tie
 
 abbrev Inv-loop : tie.InvT-loop
-Inv-loop rows count reply₀ view asked₀ turns₀ reply asked turns = Unit {0}
+Inv-loop rows count reply₀ view asked₀ row₀ turns₀ reply asked row turns = row ≤ 65
 
 abbrev μ-loop : tie.MeasureT-loop
-μ-loop rows count reply₀ view asked₀ turns₀ reply asked turns = turns
+μ-loop rows count reply₀ view asked₀ row₀ turns₀ reply asked row turns = turns
 
 loop-holds : tie.Need-loop-holds Inv-loop μ-loop
 loop-holds c = search needs
 
+ends-requires : tie.Need-ends-requires Inv-loop μ-loop
+ends-requires c κs = search needs
+
 ask-row-requires : tie.Need-ask-row-requires Inv-loop μ-loop
 ask-row-requires c κs = search needs
+
+rows-requires : tie.Need-rows-requires Inv-loop μ-loop
+rows-requires c κs = search needs
+
+add-row : tie.Need-add-row Inv-loop μ-loop
+add-row c = search needs
 
 sub-turns : tie.Need-sub-turns Inv-loop μ-loop
 sub-turns c = search needs
@@ -24,17 +34,17 @@ loop-less c = search needs
 loop-again : tie.Need-loop-again Inv-loop μ-loop
 loop-again c = search needs
 
-add-result : tie.Need-add-result Inv-loop μ-loop
-add-result c = search needs
+enum-told : tie.Need-enum-told Inv-loop μ-loop
+enum-told c = search needs
 
-rem-result : tie.Need-rem-result Inv-loop μ-loop
-rem-result c = search needs
-
-mul-result : tie.Need-mul-result Inv-loop μ-loop
-mul-result c = search needs
+mul-t15 : tie.Need-mul-t15 Inv-loop μ-loop
+mul-t15 c = search needs
 
 returns : tie.Need-returns Inv-loop μ-loop
 returns c = search needs
+
+returns-2 : tie.Need-returns-2 Inv-loop μ-loop
+returns-2 c = search needs
 
 pub ask-reply-spec : {M : Type 1} → statement M
 ask-reply-spec =
@@ -43,11 +53,14 @@ ask-reply-spec =
     Inv-loop
     μ-loop
     loop-holds
+    ends-requires
     ask-row-requires
+    rows-requires
+    add-row
     sub-turns
     loop-less
     loop-again
-    add-result
-    rem-result
-    mul-result
-    returns)
+    enum-told
+    mul-t15
+    returns
+    returns-2)

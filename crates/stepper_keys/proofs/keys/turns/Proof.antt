@@ -1,4 +1,4 @@
--- `terminal::keys::turns` is safe and ends. Assumes nothing.
+-- `stepper_keys::keys::turns` is safe and ends. Assumes nothing.
 use borrow.Author.Needs.{needs}
 use Rattle.stepper_keys.proofs.keys.turns.Statement.{statement}
 use Rattle.stepper_keys.proofs.keys.turns.Tie as tie

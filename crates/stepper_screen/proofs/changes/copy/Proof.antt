@@ -1,4 +1,4 @@
--- `screen_text::changes::copy` is safe and ends. Assumes nothing.
+-- `stepper_screen::changes::copy` is safe and ends. Assumes nothing.
 use Prim.Native.Nat.{_-_}
 use lib.ListN.{length}
 use mathlib.Core.Path.{_≡_}

@@ -1,4 +1,4 @@
--- `screen_text::errors::show_errors` is safe and ends. Assumes nothing.
+-- `stepper_screen::errors::show_errors` is safe and ends. Assumes nothing.
 use Prim.Native.Nat.{_-_}
 use borrow.Author.Needs.{needs}
 use Rattle.stepper_screen.proofs.errors.show_errors.Statement.{statement}

@@ -1,4 +1,4 @@
--- `screen_text::page::refusal_entries` is safe and ends. Assumes nothing.
+-- `stepper_screen::page::refusal_entries` is safe and ends. Assumes nothing.
 use Prim.Native.Nat.{_-_}
 use borrow.Author.Needs.{needs}
 use Rattle.stepper_screen.proofs.page.refusal_entries.Statement.{statement}

@@ -1,4 +1,4 @@
--- `screen_text::program::program_rows` is safe and ends. Assumes nothing.
+-- `stepper_screen::program::program_rows` is safe and ends. Assumes nothing.
 use Prim.Native.Nat.{_-_}
 use borrow.Author.Needs.{needs}
 use Rattle.stepper_screen.proofs.program.program_rows.Statement.{statement}

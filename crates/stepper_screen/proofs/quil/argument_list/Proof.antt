@@ -1,4 +1,4 @@
--- `screen_text::quil::argument_list` is safe and ends. Assumes nothing.
+-- `stepper_screen::quil::argument_list` is safe and ends. Assumes nothing.
 use Prim.Native.Nat.{_-_}
 use borrow.Author.Needs.{needs}
 use Rattle.stepper_screen.proofs.quil.argument_list.Statement.{statement}

@@ -1,4 +1,4 @@
--- `screen_text::quil::expression` is safe and ends. Assumes nothing.
+-- `stepper_screen::quil::expression` is safe and ends. Assumes nothing.
 use Prim.Native.Nat.{_-_}
 use borrow.Author.Needs.{needs}
 use Rattle.stepper_screen.proofs.quil.expression.Statement.{statement}

@@ -1,15 +1,14 @@
--- `screen_text::regions::cells` is safe and ends. Assumes nothing.
+-- `stepper_screen::regions::cells` is safe and ends. Assumes nothing.
 use Prim.Native.Nat.{_-_}
-use lib.ListN.{length}
 use borrow.Author.Needs.{needs}
 use Rattle.stepper_screen.proofs.regions.cells.Statement.{statement}
 use Rattle.stepper_screen.proofs.regions.cells.Tie as tie
 
 abbrev Inv-loop : tie.InvT-loop
-Inv-loop memory view first length shown i₀ t7 i = Unit {0}
+Inv-loop regions memory view r length shown i₀ t8 i = Unit {0}
 
 abbrev μ-loop : tie.MeasureT-loop
-μ-loop memory view first length shown i₀ t7 i = length - i
+μ-loop regions memory view r length shown i₀ t8 i = length - i
 
 loop-holds : tie.Need-loop-holds Inv-loop μ-loop
 loop-holds c = search needs
@@ -19,9 +18,6 @@ slice-aggregate-text c = search needs
 
 text-requires : tie.Need-text-requires Inv-loop μ-loop
 text-requires c κs = search needs
-
-wrapping-add-u64-requires : tie.Need-wrapping-add-u64-requires Inv-loop μ-loop
-wrapping-add-u64-requires c κs = search needs
 
 cell-requires : tie.Need-cell-requires Inv-loop μ-loop
 cell-requires c κs = search needs
@@ -50,7 +46,6 @@ cells-spec =
     loop-holds
     slice-aggregate-text
     text-requires
-    wrapping-add-u64-requires
     cell-requires
     add-i
     loop-less

@@ -1,49 +1,44 @@
--- `screen_text::regions::region_lines` is safe and ends. Assumes nothing.
+-- `stepper_screen::regions::region_lines` is safe and ends. Assumes nothing.
+use Prim.Native.Nat.{_-_}
 use borrow.Author.Needs.{needs}
 use Rattle.stepper_screen.proofs.regions.region_lines.Statement.{statement}
 use Rattle.stepper_screen.proofs.regions.region_lines.Tie as tie
 
 abbrev Inv-loop : tie.InvT-loop
-Inv-loop source names view regions memory opened first₀ left₀ at₀ first left at = Unit {0}
+Inv-loop source names view regions memory opened rows r₀ t10 r = Unit {0}
 
 abbrev μ-loop : tie.MeasureT-loop
-μ-loop source names view regions memory opened first₀ left₀ at₀ first left at = left
+μ-loop source names view regions memory opened rows r₀ t10 r = rows - r
 
 loop-holds : tie.Need-loop-holds Inv-loop μ-loop
 loop-holds c = search needs
 
-wrapping-add-usize-requires : tie.Need-wrapping-add-usize-requires Inv-loop μ-loop
-wrapping-add-usize-requires c κs = search needs
+region-at-requires : tie.Need-region-at-requires Inv-loop μ-loop
+region-at-requires c κs = search needs
 
-word-of-requires : tie.Need-word-of-requires Inv-loop μ-loop
-word-of-requires c κs = search needs
+slice-aggregate-text : tie.Need-slice-aggregate-text Inv-loop μ-loop
+slice-aggregate-text c = search needs
 
-word-of-requires-2 : tie.Need-word-of-requires-2 Inv-loop μ-loop
-word-of-requires-2 c κs = search needs
+text-requires : tie.Need-text-requires Inv-loop μ-loop
+text-requires c κs = search needs
 
-wrapping-add-usize-requires-2 : tie.Need-wrapping-add-usize-requires-2 Inv-loop μ-loop
-wrapping-add-usize-requires-2 c κs = search needs
-
-word-of-requires-3 : tie.Need-word-of-requires-3 Inv-loop μ-loop
-word-of-requires-3 c κs = search needs
-
-region-head-requires : tie.Need-region-head-requires Inv-loop μ-loop
-region-head-requires c κs = search needs
-
-cells-requires : tie.Need-cells-requires Inv-loop μ-loop
-cells-requires c κs = search needs
+name-requires : tie.Need-name-requires Inv-loop μ-loop
+name-requires c κs = search needs
 
 byte-requires : tie.Need-byte-requires Inv-loop μ-loop
 byte-requires c κs = search needs
 
-wrapping-add-u64-requires : tie.Need-wrapping-add-u64-requires Inv-loop μ-loop
-wrapping-add-u64-requires c κs = search needs
+vector-requires : tie.Need-vector-requires Inv-loop μ-loop
+vector-requires c κs = search needs
 
-wrapping-add-usize-requires-3 : tie.Need-wrapping-add-usize-requires-3 Inv-loop μ-loop
-wrapping-add-usize-requires-3 c κs = search needs
+cells-requires : tie.Need-cells-requires Inv-loop μ-loop
+cells-requires c κs = search needs
 
-sub-left : tie.Need-sub-left Inv-loop μ-loop
-sub-left c = search needs
+byte-requires-2 : tie.Need-byte-requires-2 Inv-loop μ-loop
+byte-requires-2 c κs = search needs
+
+add-r : tie.Need-add-r Inv-loop μ-loop
+add-r c = search needs
 
 loop-less : tie.Need-loop-less Inv-loop μ-loop
 loop-less c = search needs
@@ -61,17 +56,15 @@ region-lines-spec =
     Inv-loop
     μ-loop
     loop-holds
-    wrapping-add-usize-requires
-    word-of-requires
-    word-of-requires-2
-    wrapping-add-usize-requires-2
-    word-of-requires-3
-    region-head-requires
-    cells-requires
+    region-at-requires
+    slice-aggregate-text
+    text-requires
+    name-requires
     byte-requires
-    wrapping-add-u64-requires
-    wrapping-add-usize-requires-3
-    sub-left
+    vector-requires
+    cells-requires
+    byte-requires-2
+    add-r
     loop-less
     loop-again
     returns)

@@ -1,4 +1,4 @@
--- `screen_text::resolved::show_resolved` is safe and ends. Assumes nothing.
+-- `stepper_screen::resolved::show_resolved` is safe and ends. Assumes nothing.
 use Prim.Native.Nat.{_-_}
 use borrow.Author.Needs.{needs}
 use Rattle.stepper_screen.proofs.resolved.show_resolved.Statement.{statement}
@@ -13,8 +13,8 @@ abbrev μ-loop : tie.MeasureT-loop
 loop-holds : tie.Need-loop-holds Inv-loop μ-loop
 loop-holds c = search needs
 
-resolved-requires : tie.Need-resolved-requires Inv-loop μ-loop
-resolved-requires c κs = search needs
+resolved-row-requires : tie.Need-resolved-row-requires Inv-loop μ-loop
+resolved-row-requires c κs = search needs
 
 add-i : tie.Need-add-i Inv-loop μ-loop
 add-i c = search needs
@@ -31,4 +31,4 @@ returns c = search needs
 pub show-resolved-spec : {M : Type 1} → statement M
 show-resolved-spec =
     tie.close
-    (tie.spec Inv-loop μ-loop loop-holds resolved-requires add-i loop-less loop-again returns)
+    (tie.spec Inv-loop μ-loop loop-holds resolved-row-requires add-i loop-less loop-again returns)

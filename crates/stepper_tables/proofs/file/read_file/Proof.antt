@@ -1,4 +1,4 @@
--- `tables_text::file::read_file` is safe and ends. Assumes nothing.
+-- `stepper_tables::file::read_file` is safe and ends. Assumes nothing.
 use borrow.Author.Needs.{needs}
 use Rattle.stepper_tables.proofs.file.read_file.Statement.{statement}
 use Rattle.stepper_tables.proofs.file.read_file.Tie as tie
@@ -14,6 +14,9 @@ start-requires c κs = search needs
 
 loop-holds : tie.Need-loop-holds Inv-loop μ-loop
 loop-holds c = search needs
+
+is-taken-requires : tie.Need-is-taken-requires Inv-loop μ-loop
+is-taken-requires c κs = search needs
 
 line-at-requires : tie.Need-line-at-requires Inv-loop μ-loop
 line-at-requires c κs = search needs
@@ -47,6 +50,7 @@ read-file-spec =
     μ-loop
     start-requires
     loop-holds
+    is-taken-requires
     line-at-requires
     wrapping-add-usize-requires
     read-line-requires

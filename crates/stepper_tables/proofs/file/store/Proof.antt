@@ -1,4 +1,4 @@
--- `tables_text::file::store` is safe and ends. Assumes nothing.
+-- `stepper_tables::file::store` is safe and ends. Assumes nothing.
 use Prim.Native.Nat.{_-_}
 use borrow.Author.Needs.{needs}
 use Rattle.stepper_tables.proofs.file.store.Statement.{statement}
@@ -13,17 +13,20 @@ abbrev μ-loop : tie.MeasureT-loop
 loop-holds : tie.Need-loop-holds Inv-loop μ-loop
 loop-holds c = search needs
 
-wrapping-add-usize-requires : tie.Need-wrapping-add-usize-requires Inv-loop μ-loop
-wrapping-add-usize-requires c κs = search needs
+mul-tables : tie.Need-mul-tables Inv-loop μ-loop
+mul-tables c = search needs
 
-mul-put : tie.Need-mul-put Inv-loop μ-loop
-mul-put c = search needs
+array-read-tables : tie.Need-array-read-tables Inv-loop μ-loop
+array-read-tables c = search needs
 
-array-read-put : tie.Need-array-read-put Inv-loop μ-loop
-array-read-put c = search needs
+add-tables : tie.Need-add-tables Inv-loop μ-loop
+add-tables c = search needs
 
-put-requires : tie.Need-put-requires Inv-loop μ-loop
-put-requires c κs = search needs
+mul-tables-2 : tie.Need-mul-tables-2 Inv-loop μ-loop
+mul-tables-2 c = search needs
+
+element-write-tables : tie.Need-element-write-tables Inv-loop μ-loop
+element-write-tables c = search needs
 
 add-i : tie.Need-add-i Inv-loop μ-loop
 add-i c = search needs
@@ -44,10 +47,11 @@ store-spec =
     Inv-loop
     μ-loop
     loop-holds
-    wrapping-add-usize-requires
-    mul-put
-    array-read-put
-    put-requires
+    mul-tables
+    array-read-tables
+    add-tables
+    mul-tables-2
+    element-write-tables
     add-i
     loop-less
     loop-again

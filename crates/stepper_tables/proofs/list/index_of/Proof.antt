@@ -1,5 +1,6 @@
--- `tables_text::list::index_of` is safe and ends. Assumes nothing.
+-- `stepper_tables::list::index_of` is safe and ends. Assumes nothing.
 use Prim.Native.Nat.{_-_}
+use lib.ListN.{length}
 use borrow.Author.Needs.{needs}
 use Rattle.stepper_tables.proofs.list.index_of.Statement.{statement}
 use Rattle.stepper_tables.proofs.list.index_of.Tie as tie
@@ -8,7 +9,7 @@ abbrev Inv-loop : tie.InvT-loop
 Inv-loop list word at₀ place₀ at place = Unit {0}
 
 abbrev μ-loop : tie.MeasureT-loop
-μ-loop list word at₀ place₀ at place = 1000 - place
+μ-loop list word at₀ place₀ at place = length list - place
 
 loop-holds : tie.Need-loop-holds Inv-loop μ-loop
 loop-holds c = search needs
@@ -16,17 +17,14 @@ loop-holds c = search needs
 word-at-requires : tie.Need-word-at-requires Inv-loop μ-loop
 word-at-requires c κs = search needs
 
-returns : tie.Need-returns Inv-loop μ-loop
-returns c = search needs
-
 part-requires : tie.Need-part-requires Inv-loop μ-loop
 part-requires c κs = search needs
 
 same-requires : tie.Need-same-requires Inv-loop μ-loop
 same-requires c κs = search needs
 
-returns-2 : tie.Need-returns-2 Inv-loop μ-loop
-returns-2 c = search needs
+returns : tie.Need-returns Inv-loop μ-loop
+returns c = search needs
 
 add-place : tie.Need-add-place Inv-loop μ-loop
 add-place c = search needs
@@ -36,6 +34,9 @@ loop-less c = search needs
 
 loop-again : tie.Need-loop-again Inv-loop μ-loop
 loop-again c = search needs
+
+returns-2 : tie.Need-returns-2 Inv-loop μ-loop
+returns-2 c = search needs
 
 returns-3 : tie.Need-returns-3 Inv-loop μ-loop
 returns-3 c = search needs
@@ -48,11 +49,11 @@ index-of-spec =
     μ-loop
     loop-holds
     word-at-requires
-    returns
     part-requires
     same-requires
-    returns-2
+    returns
     add-place
     loop-less
     loop-again
+    returns-2
     returns-3)

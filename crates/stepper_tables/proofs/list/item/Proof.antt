@@ -1,4 +1,4 @@
--- `tables_text::list::item` is safe and ends. Assumes nothing.
+-- `stepper_tables::list::item` is safe and ends. Assumes nothing.
 use borrow.Author.Needs.{needs}
 use Rattle.stepper_tables.proofs.list.item.Statement.{statement}
 use Rattle.stepper_tables.proofs.list.item.Tie as tie
@@ -27,6 +27,9 @@ loop-less c = search needs
 loop-again : tie.Need-loop-again Inv-loop μ-loop
 loop-again c = search needs
 
+part-requires : tie.Need-part-requires Inv-loop μ-loop
+part-requires c κs = search needs
+
 returns : tie.Need-returns Inv-loop μ-loop
 returns c = search needs
 
@@ -42,4 +45,5 @@ item-spec =
     sub-left
     loop-less
     loop-again
+    part-requires
     returns)

@@ -1,4 +1,4 @@
--- `tables_text::plant::plant` is safe and ends. Assumes nothing.
+-- `stepper_tables::plant::plant` is safe and ends. Assumes nothing.
 use mathlib.Core.Path.{_≡_}
 use lib.ListN.{length}
 use borrow.Author.Needs.{needs}
@@ -6,12 +6,10 @@ use Rattle.stepper_tables.proofs.plant.plant.Statement.{statement}
 use Rattle.stepper_tables.proofs.plant.plant.Tie as tie
 
 abbrev Inv-loop : tie.InvT-loop
-Inv-loop text names₀ known-names memory₀ journal₀ placed₀ at₀ left₀ names memory journal placed at left =
-    (length memory ≡ length memory₀) × (length journal ≡ length journal₀)
+Inv-loop text names₀ known-names memory₀ journal₀ placed₀ at₀ left₀ names memory journal placed at left = (length memory ≡ length memory₀) × (length journal ≡ length journal₀)
 
 abbrev μ-loop : tie.MeasureT-loop
-μ-loop text names₀ known-names memory₀ journal₀ placed₀ at₀ left₀ names memory journal placed at left =
-    left
+μ-loop text names₀ known-names memory₀ journal₀ placed₀ at₀ left₀ names memory journal placed at left = left
 
 loop-holds : tie.Need-loop-holds Inv-loop μ-loop
 loop-holds c = search needs

@@ -1,10 +1,11 @@
--- `tables_text::row::read_row` is safe and ends. Assumes nothing.
+-- `stepper_tables::row::read_row` is safe and ends. Assumes nothing.
+use Prim.Native.Nat.{_≤_}
 use borrow.Author.Needs.{needs}
 use Rattle.stepper_tables.proofs.row.read_row.Statement.{statement}
 use Rattle.stepper_tables.proofs.row.read_row.Tie as tie
 
 abbrev Inv-loop : tie.InvT-loop
-Inv-loop text names₀ heading at end known-names row₀ place₀ turns₀ names row place turns = Unit {0}
+Inv-loop text names₀ heading at end known-names row₀ place₀ turns₀ names row place turns = row .count ≤ 16
 
 abbrev μ-loop : tie.MeasureT-loop
 μ-loop text names₀ heading at end known-names row₀ place₀ turns₀ names row place turns = turns
@@ -20,6 +21,9 @@ loop-holds c = search needs
 
 word-at-requires : tie.Need-word-at-requires Inv-loop μ-loop
 word-at-requires c κs = search needs
+
+is-taken-requires : tie.Need-is-taken-requires Inv-loop μ-loop
+is-taken-requires c κs = search needs
 
 add-requires : tie.Need-add-requires Inv-loop μ-loop
 add-requires c κs = search needs
@@ -49,6 +53,7 @@ read-row-spec =
     add-turns
     loop-holds
     word-at-requires
+    is-taken-requires
     add-requires
     sub-turns
     loop-less

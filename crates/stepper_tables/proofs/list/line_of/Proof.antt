@@ -1,7 +1,7 @@
--- `screen_text::print::line_of` is safe and ends. Assumes nothing.
+-- `stepper_tables::list::line_of` is safe and ends. Assumes nothing.
 use borrow.Author.Needs.{needs}
-use Rattle.stepper_screen.proofs.print.line_of.Statement.{statement}
-use Rattle.stepper_screen.proofs.print.line_of.Tie as tie
+use Rattle.stepper_tables.proofs.list.line_of.Statement.{statement}
+use Rattle.stepper_tables.proofs.list.line_of.Tie as tie
 
 abbrev Inv-loop : tie.InvT-loop
 Inv-loop list place line₀ left₀ line left = Unit {0}
@@ -27,6 +27,9 @@ loop-less c = search needs
 loop-again : tie.Need-loop-again Inv-loop μ-loop
 loop-again c = search needs
 
+part-requires : tie.Need-part-requires Inv-loop μ-loop
+part-requires c κs = search needs
+
 returns : tie.Need-returns Inv-loop μ-loop
 returns c = search needs
 
@@ -42,4 +45,5 @@ line-of-spec =
     sub-left
     loop-less
     loop-again
+    part-requires
     returns)
