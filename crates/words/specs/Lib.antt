@@ -8,4 +8,3 @@ pub mod Width
 pub mod WidthLaws
 pub mod RealLaws
 pub mod Fits
-pub mod Bench
