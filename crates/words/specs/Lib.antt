@@ -1,5 +1,4 @@
--- Words of cells: the definitions (Kind, TwosComplement, Integer, Real, Width), their laws (WidthLaws, RealLaws, Fits) and worked
--- examples (Bench).
+-- Words of cells: the definitions (Kind, TwosComplement, Integer, Real, Width) and their laws (WidthLaws, RealLaws, Fits).
 pub mod Kind
 pub mod TwosComplement
 pub mod Integer

@@ -12,7 +12,7 @@ realIsNan a = Ieee.nanBits binary64 a
 abbrev pub realValue : ℕ → Float
 realValue a = Ieee.ofBits binary64 a
 
--- The pattern of a value. 01, Machine: "a NaN result is 7FF8000000000000 (hexadecimal)", which is `toBits`'s pattern of `nan` (`Bench.antt`).
+-- The pattern of a value. 01, Machine: "a NaN result is 7FF8000000000000 (hexadecimal)", which is `toBits`'s pattern of `nan` (`nan-pattern`, RealLaws.antt).
 abbrev pub realPattern : Float → ℕ
 realPattern x = Ieee.toBits binary64 x
 

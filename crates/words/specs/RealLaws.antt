@@ -1,11 +1,16 @@
--- NaN, for every pattern of one. 01, Machine, Comparison: "NaN is always 0". Assumes nothing.
+-- NaN: its pattern as a result, and every pattern of one. 01, Machine, Comparison: "NaN is always 0". Assumes nothing.
 use mathlib.Core.Path.{_≡_, refl, sym, _∙_, subst}
 use mathlib.Core.Bool.{true, false}
 use Prim.Native.Nat.{ℕ}
 use lib.Dec.{T}
-use lib.Ieee.{Float, nan, inf, fin, isNan, eq, le, lt, binary64}
+use lib.Ieee.{Float, nan, inf, fin, isNan, eq, le, lt, toBits, binary64}
 use lib.Ieee.Bits.{nanBits-is}
-use Rattle.words.specs.Real.{realIsNan, realValue, realEqual, realGreaterThanOrEqual, realGreaterThan, realLessThanOrEqual, realLessThan}
+use Rattle.words.specs.Real.{realIsNan, realValue, realPattern, realEqual, realGreaterThanOrEqual, realGreaterThan, realLessThanOrEqual, realLessThan}
+
+-- "a NaN result is 7FF8000000000000 (hexadecimal)"
+pub nan-pattern : realPattern nan ≡ 0x7FF8000000000000
+unfolding toBits
+nan-pattern = refl
 
 is-nan : (x : Float) → T (isNan x) → x ≡ nan
 unfolding isNan
