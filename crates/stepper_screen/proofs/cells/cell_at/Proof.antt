@@ -22,7 +22,7 @@ returns c = search needs
 index-cell-requires : tie.Need-index-cell-requires
 index-cell-requires c κs =
     let g = cells-given _ _ (seen cellsOutcome (c .before .before .before .before .cell-count .ensures) (c .before .before .cells .given .1)) in
-    (search needs, omega (arith, g .0, g .1))
+    (search needs, record { few = omega (arith, g .0, g .1) })
 
 returns-2 : tie.Need-returns-2
 returns-2 c = search needs

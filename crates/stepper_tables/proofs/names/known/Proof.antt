@@ -1,4 +1,4 @@
--- `tables_text::names::known` is safe and ends. Assumes nothing.
+-- `stepper_tables::names::known` is safe and ends. Assumes nothing.
 use Prim.Native.Nat.{_-_}
 use borrow.Author.Needs.{needs}
 use Rattle.stepper_tables.proofs.names.known.Statement.{statement}

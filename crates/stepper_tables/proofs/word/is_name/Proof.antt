@@ -1,4 +1,4 @@
--- `tables_text::word::is_name` is safe and ends. Assumes nothing.
+-- `stepper_tables::word::is_name` is safe and ends. Assumes nothing.
 use Prim.Native.Nat.{_-_}
 use lib.ListN.{length}
 use borrow.Author.Needs.{needs}
