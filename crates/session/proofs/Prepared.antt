@@ -11,7 +11,7 @@ use borrow.Author.Tests.{eqb-true, leb-true}
 use Rattle.tables.specs.Outcome.{Outcome, ok, refuse, _>>=_, _>>_}
 use Rattle.tables.specs.Tables.{Tables}
 use Rattle.loader.specs.Load.{loadLook}
-use Rattle.tables.specs.Cells.{cellCount, cellsOf}
+use Rattle.tables.specs.Cells.{cellLimit, cellCount, cellsOf}
 use Rattle.loader.proofs.Loaded.{both, passed}
 use Rattle.tables.proofs.CellsLaws.{cells-given}
 use Rattle.operands.proofs.Binds.{bound}
@@ -36,7 +36,7 @@ fitting cells memory journal e =
 pub record Facts (t : Tables) (memory journal n : ℕ) : Type 0 where
   pub loads : loadLook t ≡ ok tt
   pub count : n ≡ cellCount (t .regions)
-  pub few : n ≤ 4096
+  pub few : n ≤ cellLimit
   pub room : cellWidth * n ≤ memory
   pub whole : journal % entryWidth ≡ 0
   pub short : entriesOf journal ≤ entryLimit

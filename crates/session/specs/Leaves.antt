@@ -1,4 +1,4 @@
--- What a call leaves: its answer, memory, and the journal where it writes one.
+-- What a call leaves: its answer, memory, and the journal's words (J is Unit where it writes none).
 use Prim.Native.Nat.{ℕ}
 use mathlib.Core.List.{List, _++_}
 use lib.ListN.{take, drop}

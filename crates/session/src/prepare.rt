@@ -2,6 +2,7 @@
 ghost use mathlib.Core.Path.{_≡_};
 ghost use Prim.Native.Nat.{_≤_};
 ghost use Rattle.tables.specs.Tables.{tablesOf};
+ghost use Rattle.tables.specs.Cells.{cellLimit};
 ghost use Rattle.session.specs.Prepare.{buffersFit, preparedOf, preparedOutcome};
 use journal::cells::CELL_WIDTH;
 use journal::entries::ENTRY_LIMIT;
@@ -21,7 +22,7 @@ pub enum Prepared {
 
 // Whether memory and journal, so many words each, are long enough, whole and not too long.
 fn buffers_fit(cells: usize, memory: usize, journal: usize) -> bool
-    requires { ⌜ cells ≤ 4096 ⌝ }
+    requires { ⌜ cells ≤ cellLimit ⌝ }
     ensures { λ r. ⌜ r ≡ buffersFit cells memory journal ⌝ }
 {
     (CELL_WIDTH * cells <= memory)

@@ -6,7 +6,7 @@ ghost use lib.ListN.{length};
 ghost use Rattle.tables.specs.Outcome.{ok};
 ghost use Rattle.extern_call.specs.Call.{CallRanges};
 ghost use Rattle.journal.specs.Cells.{put, held, applied};
-ghost use Rattle.journal.specs.Entries.{wordsOf, entered, journaled};
+ghost use Rattle.journal.specs.Entries.{entryWidth, wordsOf, entered, journaled};
 ghost use Rattle.call_reply.specs.Call.{replyRows, replyWrite, replyWrites, callOutcome};
 ghost use Rattle.operands.specs.Reach.{Layout};
 ghost use Rattle.call_reply.specs.Reach.{Replied};
@@ -38,7 +38,7 @@ fn write_row(
     reply: &[u64],
     k: usize,
 )
-    requires { ⌜ (Layout (now regions) (now cells)) × (Replied (now regions) (now parameters) (now arguments) call (now reply) k) × (3 * entry + 2 < length (now journal)) ⌝ }
+    requires { ⌜ (Layout (now regions) (now cells)) × (Replied (now regions) (now parameters) (now arguments) call (now reply) k) × (entryWidth * entry + 2 < length (now journal)) ⌝ }
     ensures { λ r. ⌜ now (cells .exit) ≡ put (now (cells .entry)) (replyWrite (now (regions .entry)) (now (parameters .entry)) (now (arguments .entry)) call (now (reply .entry)) k) ⌝ }
     ensures { λ r. ⌜ now (journal .exit) ≡ entered (now (journal .entry)) entry (wordsOf (held (now (cells .entry)) (replyWrite (now (regions .entry)) (now (parameters .entry)) (now (arguments .entry)) call (now (reply .entry)) k .cell))) ⌝ }
 {
@@ -57,7 +57,7 @@ fn write_reply(
     used: usize,
     reply: &[u64],
 )
-    requires { ⌜ (Replying (now regions) (now parameters) (now arguments) call (now cells) (now reply)) × (3 * (used + (replyRows (now reply) + 1)) ≤ length (now journal)) ⌝ }
+    requires { ⌜ (Replying (now regions) (now parameters) (now arguments) call (now cells) (now reply)) × (entryWidth * (used + (replyRows (now reply) + 1)) ≤ length (now journal)) ⌝ }
     ensures { λ r. ⌜ now (cells .exit) ≡ applied (now (cells .entry)) (replyWrites (now (regions .entry)) (now (parameters .entry)) (now (arguments .entry)) call (now (reply .entry))) ⌝ }
     ensures { λ r. ⌜ now (journal .exit) ≡ journaled (now (journal .entry)) used (now (cells .entry)) (replyWrites (now (regions .entry)) (now (parameters .entry)) (now (arguments .entry)) call (now (reply .entry))) ⌝ }
 {

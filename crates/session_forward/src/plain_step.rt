@@ -1,9 +1,10 @@
 // A row that is no CALL: its outcome, then its writes with their entries.
 ghost use mathlib.Core.Path.{_≡_};
 ghost use mathlib.Core.List.{List, [], _∷_};
-ghost use Prim.Native.Nat.{ℕ, _+_, _*_, _<_};
+ghost use Prim.Native.Nat.{ℕ};
 ghost use lib.ListN.{length};
 ghost use Rattle.tables.specs.Outcome.{ok};
+ghost use Rattle.operands.specs.Reach.{There};
 ghost use Rattle.machine.specs.Outcome.{plainOutcome};
 ghost use Rattle.machine.specs.Reach.{Opened};
 ghost use Rattle.session_forward.specs.Forward.{left};
@@ -35,7 +36,7 @@ fn step_none(journal: &mut [u64], p: Position) -> StepAnswer
 }
 
 fn step_one(cells: &mut [u64], journal: &mut [u64], p: Position, w: Write) -> StepAnswer
-    requires { ⌜ (Placed (length (now journal)) p) × (2 * w .cell + 1 < length (now cells)) ⌝ }
+    requires { ⌜ (Placed (length (now journal)) p) × (There (now cells) (w .cell)) ⌝ }
     ensures { λ r. ⌜ left r (now (cells .exit)) (now (journal .exit)) ≡ rowLeaves (now (cells .entry)) (now (journal .entry)) p (ok (w ∷ [])) ⌝ }
 {
     let used = p.used;
@@ -48,7 +49,7 @@ fn step_one(cells: &mut [u64], journal: &mut [u64], p: Position, w: Write) -> St
 
 // The writes are made in this order.
 fn step_two(cells: &mut [u64], journal: &mut [u64], p: Position, v: Write, w: Write) -> StepAnswer
-    requires { ⌜ (Placed (length (now journal)) p) × (2 * v .cell + 1 < length (now cells)) × (2 * w .cell + 1 < length (now cells)) ⌝ }
+    requires { ⌜ (Placed (length (now journal)) p) × (There (now cells) (v .cell)) × (There (now cells) (w .cell)) ⌝ }
     ensures { λ r. ⌜ left r (now (cells .exit)) (now (journal .exit)) ≡ rowLeaves (now (cells .entry)) (now (journal .entry)) p (ok (v ∷ w ∷ [])) ⌝ }
 {
     let used = p.used;
