@@ -28,7 +28,7 @@ use tables::rows::REGION_WIDTH;
 use tables::tree::one_tree;
 
 // Every word rule of every table, of tables within their limits.
-pub fn allowed_tables(
+fn allowed_tables(
     regions: &[u64],
     externs: &[u64],
     parameters: &[u64],
@@ -51,14 +51,14 @@ pub fn allowed_tables(
 }
 
 // No two regions and no two externs of one name.
-pub fn distinct_tables(regions: &[u64], externs: &[u64]) -> bool
+fn distinct_tables(regions: &[u64], externs: &[u64]) -> bool
     ensures { λ r. ⌜ r ≡ distinctNames (now (regions .entry)) (now (externs .entry)) ⌝ }
 {
     distinct_names(regions, REGION_WIDTH) & distinct_names(externs, EXTERN_WIDTH)
 }
 
 // Whether the chosen row is there and of the family.
-pub fn chosen_row(instructions: &[u64], row: usize, family: u64) -> bool
+fn chosen_row(instructions: &[u64], row: usize, family: u64) -> bool
     ensures { λ r. ⌜ r ≡ chosenRow (now (instructions .entry)) row family ⌝ }
 {
     if instructions.len() / INSTRUCTION_WIDTH <= row {

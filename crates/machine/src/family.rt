@@ -132,7 +132,7 @@ pub fn logic(cells: &[u64], x: Instruction, a: Addresses) -> RowOutcome
     })
 }
 
-pub fn unary(cells: &[u64], x: Instruction, a: Addresses) -> RowOutcome
+fn unary(cells: &[u64], x: Instruction, a: Addresses) -> RowOutcome
     requires { ⌜ There (now cells) (a .first) ⌝ }
     ensures { λ r. ⌜ rowOutcome r ≡ unaryOf (now (cells .entry)) x a ⌝ }
 {
@@ -149,7 +149,7 @@ pub fn unary(cells: &[u64], x: Instruction, a: Addresses) -> RowOutcome
     })
 }
 
-pub fn move_source(cells: &[u64], x: Instruction, a: Addresses) -> RowOutcome
+fn move_source(cells: &[u64], x: Instruction, a: Addresses) -> RowOutcome
     requires { ⌜ TargetAndSource (now cells) x a ⌝ }
     ensures { λ r. ⌜ rowOutcome r ≡ moveOf (now (cells .entry)) x a ⌝ }
 {

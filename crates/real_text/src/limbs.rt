@@ -1,5 +1,5 @@
 // Four large numbers in one array, 40 limbs of 32 bits each, the lowest first: room for every binary64 times the powers of ten that its text takes.
-pub const LIMBS: usize = 40;
+const LIMBS: usize = 40;
 
 pub const WORK: usize = 160;
 

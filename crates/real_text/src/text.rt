@@ -4,7 +4,7 @@ use crate::digits::MOST_DIGITS;
 use crate::digits::POINT;
 use crate::digits::decimal_of;
 
-pub const TEXT: usize = 32;
+const TEXT: usize = 32;
 
 const SIGN: u64 = 0x8000_0000_0000_0000;
 

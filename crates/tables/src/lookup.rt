@@ -52,7 +52,7 @@ fn pass_fours(table: &[u64], width: usize, rows: usize, name: u64) -> usize
 }
 
 // The first of the first `rows` rows with that name.
-pub fn lookup_among(table: &[u64], width: usize, rows: usize, name: u64) -> Found
+fn lookup_among(table: &[u64], width: usize, rows: usize, name: u64) -> Found
     requires { ⌜ (0 < width) × (rows * width ≤ length (now table)) ⌝ }
     ensures { λ r. ⌜ r ≡ lookupAmong width (now (table .entry)) name rows ⌝ }
 {

@@ -9,7 +9,7 @@ const EPSILON: f64 = 2.220446049250313e-16;
 const NAN: u64 = 0x7FF8_0000_0000_0000;
 
 // Tested as an integer, since `f64::from_bits` takes no pattern of a NaN: the pattern without its sign is above infinity's.
-pub fn is_nan(a: u64) -> bool
+fn is_nan(a: u64) -> bool
     ensures { λ r. ⌜ r ≡ realIsNan a ⌝ }
 {
     a % 0x8000_0000_0000_0000 > 0x7FF0_0000_0000_0000
