@@ -61,7 +61,7 @@ module _ (regions externs parameters arguments : List ℕ) (x : Instruction) (ca
       record { resolving = r; scalars = s; fits = rw q at f }
 
 -- each of its rows fits
-pub judged-replied : {regions externs parameters arguments : List ℕ} {x : Instruction} {reply : List ℕ} {call : Call}
+pub judged-replied : {regions externs parameters arguments : List ℕ} {x : Instruction} {reply : List ℕ} {call : ExternCall}
     → Laid regions → CallRanges externs parameters arguments x → Judged regions externs parameters arguments x reply call
     → (k : ℕ) → k < replyRows reply → Replied regions parameters arguments call reply k
 unfolding replyFits

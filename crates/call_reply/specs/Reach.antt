@@ -32,7 +32,7 @@ HitWithin regions offset (Resolved a) = CellWithin regions offset a
 HitWithin regions offset (Failed error) = Unit {0}
 
 -- argument i and its cell
-pub record Hit (regions parameters arguments : List ℕ) (call : Call) (i offset : ℕ) : Type 0 where
+pub record Hit (regions parameters arguments : List ℕ) (call : ExternCall) (i offset : ℕ) : Type 0 where
   pub laid : Laid regions
   pub paired : Paired parameters arguments call i
   pub cell : HitWithin regions offset (resolutionAt regions parameters arguments call i)
@@ -43,7 +43,7 @@ pub record Judging (parameters arguments : List ℕ) (call : ExternCall) (reply 
   pub row : k < replyRows reply
 
 -- row k of a reply that fits
-pub record Replied (regions parameters arguments : List ℕ) (call : Call) (reply : List ℕ) (k : ℕ) : Type 0 where
+pub record Replied (regions parameters arguments : List ℕ) (call : ExternCall) (reply : List ℕ) (k : ℕ) : Type 0 where
   pub laid : Laid regions
   pub counted : Counted parameters arguments call
   pub scalars : scalarsFit regions parameters arguments call ≡ true

@@ -23,9 +23,9 @@ use tables::refusal::EXTERN_NOT_FOUND;
 use tables::rows::Instruction;
 
 // Words in a row of each kind.
-const ERROR_WIDTH: usize = 7;
+pub const ERROR_WIDTH: usize = 7;
 
-const RESOLVED_WIDTH: usize = 5;
+pub const RESOLVED_WIDTH: usize = 5;
 
 pub enum ResolveAnswer {
     Refused(u64),
