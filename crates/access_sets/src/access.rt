@@ -1,4 +1,5 @@
 // The access sets of a CALL, ascending, in lent lists.
+// Translated from quil-rs, instruction/extern_call.rs (Apache-2.0), and changed: see NOTICE.
 ghost use mathlib.Core.Path.{_≡_};
 ghost use Prim.Native.Nat.{_+_, _^_, _≤_, _<_};
 ghost use mathlib.Core.List.{_∷_};

@@ -1,4 +1,5 @@
 // A CALL's arguments, each with its place in the extern's signature.
+// Translated from quil-rs, instruction/extern_call.rs (Apache-2.0), and changed: see NOTICE.
 ghost use mathlib.Core.Path.{_≡_};
 ghost use Prim.Native.Nat.{_+_, _^_, _<_};
 ghost use Rattle.extern_call.specs.Call.{foundCall, findCall, expectedCount, placeOf, ofReturn, ofParameter, resolutionAt, Paired, Counted, allResolve, CallRanges, callAnswer, resolvesCall};

@@ -1,4 +1,5 @@
 // Why an argument does not resolve.
+// Translated from quil-rs, instruction/extern_call.rs (Apache-2.0), and changed: see NOTICE.
 ghost use mathlib.Core.Path.{_≡_};
 ghost use mathlib.Core.List.{_∷_};
 ghost use Rattle.extern_call.specs.Errors.{argumentErrorWords, errorRow};

@@ -1,4 +1,5 @@
 // A whole CALL, resolved into a lent buffer: its resolved rows, or the rows of all its errors.
+// Translated from quil-rs, instruction/extern_call.rs (Apache-2.0), and changed: see NOTICE.
 ghost use mathlib.Core.Path.{_≡_};
 ghost use Prim.Native.Nat.{_+_, _*_, _≤_};
 ghost use lib.ListN.{length};

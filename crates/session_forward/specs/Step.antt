@@ -18,7 +18,7 @@ use Rattle.journal.specs.declared.cells.Write.{Write}
 use Rattle.journal.specs.declared.position.Position.{Position}
 use Rattle.journal.specs.Position.{rowOf}
 use Rattle.journal.specs.Entries.{entryLimit}
-use Rattle.call_reply.specs.Call.{replyRows}
+use Rattle.call_reply.specs.Call.{replyLimit, replyRows}
 use Rattle.operands.specs.Reach.{Layout}
 use Rattle.call_reply.specs.Reach.{Replied}
 use Rattle.machine.specs.Reach.{Opened}
@@ -78,4 +78,4 @@ pub record RowReady (regions externs parameters arguments : List ℕ) (x : Instr
 pub record Replying (regions parameters arguments : List ℕ) (call : ExternCall) (cells reply : List ℕ) : Type 0 where
   pub layout : Layout regions cells
   pub row : (k : ℕ) → k < replyRows reply → Replied regions parameters arguments call reply k
-  pub few : replyRows reply ≤ 64
+  pub few : replyRows reply ≤ replyLimit

@@ -1,4 +1,5 @@
 // Verdicts, and the four type errors under quil-rs's names.
+// Translated from quil-rs, program/type_check.rs (Apache-2.0), and changed: see NOTICE.
 ghost use mathlib.Core.Path.{_≡_};
 ghost use Rattle.type_check.specs.Judgement.{undefinedMemoryReference, dataTypeMismatch, realValueRequired, operatorOperandMismatch, verdictAt};
 use crate::code::ABSENT;

@@ -1,4 +1,5 @@
 // A frame's expression: each of its nodes must be real.
+// Translated from quil-rs, program/type_check.rs (Apache-2.0), and changed: see NOTICE.
 ghost use mathlib.Core.Path.{_≡_};
 ghost use Prim.Native.Nat.{_+_, _<_, _≤_};
 ghost use Rattle.tables.specs.Rows.{nodeRows};

@@ -1,4 +1,5 @@
 // The type check of a row, by its family, and of a program: its first bad row.
+// Translated from quil-rs, program/type_check.rs (Apache-2.0), and changed: see NOTICE.
 ghost use mathlib.Core.Path.{_≡_};
 ghost use Rattle.type_check.specs.Check.{FrameInside, FramesInside, verdictOf, checkOf};
 use crate::error::Verdict;

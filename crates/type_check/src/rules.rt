@@ -1,4 +1,5 @@
 // The typing rules of the families but frames. A rule looks names up in 01's order; the first look that fails is the error.
+// Translated from quil-rs, program/type_check.rs (Apache-2.0), and changed: see NOTICE.
 ghost use mathlib.Core.Path.{_≡_};
 ghost use Prim.Native.Nat.{_<_};
 ghost use Rattle.tables.specs.Rows.{regionRows, regionKind};

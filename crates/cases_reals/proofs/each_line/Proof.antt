@@ -1,4 +1,4 @@
--- `real_cases::` is safe and ends. Assumes nothing.
+-- `cases_reals::` is safe and ends. Assumes nothing.
 use borrow.Author.Needs.{needs}
 use Rattle.cases_reals.proofs.each_line.Statement.{statement}
 use Rattle.cases_reals.proofs.each_line.Tie as tie
