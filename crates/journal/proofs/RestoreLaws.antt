@@ -40,7 +40,7 @@ undo-journaled j used m ws h =
 
 -- ---- what restoring leaves alone
 
-length-restored : (m : List ℕ) (os : List Write) → length (restored m os) ≡ length m
+pub length-restored : (m : List ℕ) (os : List Write) → length (restored m os) ≡ length m
 unfolding restored
 length-restored m [] = refl
 length-restored m (o ∷ os) = length-put (restored m os) o ∙ length-restored m os

@@ -2,7 +2,7 @@
 ghost use mathlib.Core.Path.{_≡_};
 ghost use Prim.Native.Nat.{_+_, _*_, _<_};
 ghost use lib.ListN.{length};
-ghost use Rattle.journal.specs.Cells.{put};
+ghost use Rattle.journal.specs.Cells.{cellWidth, put};
 
 // Words in a cell.
 pub const CELL_WIDTH: usize = 2;
@@ -16,7 +16,7 @@ pub struct Write {
 
 // The cell gets its kind and word.
 pub fn put_cell(cells: &mut [u64], w: Write)
-    requires { ⌜ 2 * w .cell + 1 < length (now cells) ⌝ }
+    requires { ⌜ cellWidth * w .cell + 1 < length (now cells) ⌝ }
     ensures { λ r. ⌜ now (cells .exit) ≡ put (now (cells .entry)) w ⌝ }
 {
     let at = CELL_WIDTH * w.cell;

@@ -3,8 +3,8 @@ ghost use mathlib.Core.Path.{_≡_};
 ghost use mathlib.Core.List.{[], _∷_};
 ghost use Prim.Native.Nat.{_+_, _*_, _≤_, _<_};
 ghost use lib.ListN.{length};
-ghost use Rattle.journal.specs.Cells.{put, held, applied};
-ghost use Rattle.journal.specs.Entries.{wordsOf, closing, changesAt, entered, journaled};
+ghost use Rattle.journal.specs.Cells.{cellWidth, put, held, applied};
+ghost use Rattle.journal.specs.Entries.{entryWidth, wordsOf, closing, changesAt, entered, journaled};
 use crate::cells::CELL_WIDTH;
 use crate::cells::Write;
 use crate::cells::put_cell;
@@ -15,7 +15,7 @@ pub const ENTRY_WIDTH: usize = 3;
 pub const ENTRY_LIMIT: usize = 2048;
 
 fn put_entry(journal: &mut [u64], entry: usize, first: u64, second: u64, third: u64)
-    requires { ⌜ 3 * entry + 2 < length (now journal) ⌝ }
+    requires { ⌜ entryWidth * entry + 2 < length (now journal) ⌝ }
     ensures { λ r. ⌜ now (journal .exit) ≡ entered (now (journal .entry)) entry (first ∷ second ∷ third ∷ []) ⌝ }
 {
     let at = ENTRY_WIDTH * entry;
@@ -26,7 +26,7 @@ fn put_entry(journal: &mut [u64], entry: usize, first: u64, second: u64, third: 
 
 // A write with its entry: what the cell holds is entered before the cell is written.
 pub fn write_cell(cells: &mut [u64], journal: &mut [u64], entry: usize, w: Write)
-    requires { ⌜ (2 * w .cell + 1 < length (now cells)) × (3 * entry + 2 < length (now journal)) ⌝ }
+    requires { ⌜ (cellWidth * w .cell + 1 < length (now cells)) × (entryWidth * entry + 2 < length (now journal)) ⌝ }
     ensures { λ r. ⌜ now (cells .exit) ≡ put (now (cells .entry)) w ⌝ }
     ensures { λ r. ⌜ now (journal .exit) ≡ entered (now (journal .entry)) entry (wordsOf (held (now (cells .entry)) (w .cell))) ⌝ }
 {
@@ -38,7 +38,7 @@ pub fn write_cell(cells: &mut [u64], journal: &mut [u64], entry: usize, w: Write
 
 // The closing entry of a step with so many changes.
 pub fn close(journal: &mut [u64], entry: usize, changes: usize)
-    requires { ⌜ 3 * entry + 2 < length (now journal) ⌝ }
+    requires { ⌜ entryWidth * entry + 2 < length (now journal) ⌝ }
     ensures { λ r. ⌜ now (journal .exit) ≡ entered (now (journal .entry)) entry (closing changes) ⌝ }
 {
     put_entry(journal, entry, changes as u64, 0, 0);
@@ -46,7 +46,7 @@ pub fn close(journal: &mut [u64], entry: usize, changes: usize)
 
 // The change count of the closing entry there.
 pub fn changes_at(journal: &[u64], entry: usize) -> usize
-    requires { ⌜ 3 * entry < length (now journal) ⌝ }
+    requires { ⌜ entryWidth * entry < length (now journal) ⌝ }
     ensures { λ r. ⌜ r ≡ changesAt (now (journal .entry)) entry ⌝ }
 {
     journal[ENTRY_WIDTH * entry] as usize
@@ -54,7 +54,7 @@ pub fn changes_at(journal: &[u64], entry: usize) -> usize
 
 // A step of one write, with its closing entry.
 pub fn write_one(cells: &mut [u64], journal: &mut [u64], used: usize, w: Write)
-    requires { ⌜ (2 * w .cell + 1 < length (now cells)) × (3 * (used + 2) ≤ length (now journal)) ⌝ }
+    requires { ⌜ (cellWidth * w .cell + 1 < length (now cells)) × (entryWidth * (used + 2) ≤ length (now journal)) ⌝ }
     ensures { λ r. ⌜ now (cells .exit) ≡ applied (now (cells .entry)) (w ∷ []) ⌝ }
     ensures { λ r. ⌜ now (journal .exit) ≡ journaled (now (journal .entry)) used (now (cells .entry)) (w ∷ []) ⌝ }
 {
@@ -64,7 +64,7 @@ pub fn write_one(cells: &mut [u64], journal: &mut [u64], used: usize, w: Write)
 
 // A step of two writes, made in this order, with its closing entry.
 pub fn write_two(cells: &mut [u64], journal: &mut [u64], used: usize, v: Write, w: Write)
-    requires { ⌜ (2 * v .cell + 1 < length (now cells)) × (2 * w .cell + 1 < length (now cells)) × (3 * (used + 3) ≤ length (now journal)) ⌝ }
+    requires { ⌜ (cellWidth * v .cell + 1 < length (now cells)) × (cellWidth * w .cell + 1 < length (now cells)) × (entryWidth * (used + 3) ≤ length (now journal)) ⌝ }
     ensures { λ r. ⌜ now (cells .exit) ≡ applied (now (cells .entry)) (v ∷ w ∷ []) ⌝ }
     ensures { λ r. ⌜ now (journal .exit) ≡ journaled (now (journal .entry)) used (now (cells .entry)) (v ∷ w ∷ []) ⌝ }
 {

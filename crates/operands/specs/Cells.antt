@@ -9,6 +9,7 @@ use Rattle.tables.specs.Cases.{caseOf}
 use Rattle.tables.specs.Source as source
 use Rattle.tables.specs.Outcome.{Outcome, ok, refuse, _>>=_, _>>_, need}
 use Rattle.tables.specs.declared.rows.Instruction.{Instruction}
+use Rattle.journal.specs.Cells.{cellWidth}
 use Rattle.journal.specs.declared.cells.Write.{Write}
 use Rattle.operands.specs.declared.cell.Value.{Value}
 use Rattle.operands.specs.declared.cell.Read.{Read}
@@ -17,10 +18,10 @@ use Rattle.operands.specs.declared.cell.Offset.{Offset}
 use Rattle.operands.specs.declared.cell.Offset.the-variants as O
 
 abbrev pub cellKind : List ℕ → ℕ → ℕ
-cellKind cells c = getD cells (2 * c) 0
+cellKind cells c = getD cells (cellWidth * c) 0
 
 abbrev pub cellWord : List ℕ → ℕ → ℕ
-cellWord cells c = getD cells (2 * c + 1) 0
+cellWord cells c = getD cells (cellWidth * c + 1) 0
 
 abbrev pub cellAt : List ℕ → ℕ → Value
 cellAt cells c = record { kind = cellKind cells c; word = cellWord cells c }

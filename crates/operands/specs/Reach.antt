@@ -8,11 +8,12 @@ use Rattle.tables.specs.Rows.{regionRows}
 use Rattle.tables.specs.Cells.{cellLimit, cellCount}
 use Rattle.tables.specs.Names.{indexesFirst, indexesSecond, namesSource}
 use Rattle.tables.specs.declared.rows.Instruction.{Instruction}
+use Rattle.journal.specs.Cells.{cellWidth}
 use Rattle.operands.specs.declared.address.NamedRegions.{NamedRegions}
 
 -- both words of cell c
 abbrev pub There : List ℕ → ℕ → Type 0
-There cells c = 2 * c + 1 < length cells
+There cells c = cellWidth * c + 1 < length cells
 
 -- the source of a row, where it is a reference
 abbrev pub SourceThere : List ℕ → Instruction → ℕ → Type 0
@@ -25,7 +26,7 @@ pub record Laid (regions : List ℕ) : Type 0 where
 -- the cells of all regions
 pub record Layout (regions cells : List ℕ) : Type 0 where
   pub laid : Laid regions
-  pub wide : length cells ≡ 2 * cellCount regions
+  pub wide : length cells ≡ cellWidth * cellCount regions
 
 -- the regions whose written indices are looked at
 pub record Named (regions : List ℕ) (x : Instruction) (n : NamedRegions) : Type 0 where

@@ -7,7 +7,7 @@ use lib.ListN.{length}
 use Rattle.words.specs.Kind.{fitsKind}
 use Rattle.tables.specs.Cells.{cellCount}
 use Rattle.journal.specs.declared.cells.Write.{Write}
-use Rattle.journal.specs.Cells.{held}
+use Rattle.journal.specs.Cells.{cellWidth, held}
 use Rattle.operands.specs.Kinds.{declaredKind}
 
 -- what a cell holds, or gets: its declared kind, and a word of that kind
@@ -17,5 +17,5 @@ pub record Fits (regions : List ℕ) (w : Write) : Type 0 where
 
 -- demand 3: "every cell has its declared kind"
 pub record Typed (regions cells : List ℕ) : Type 0 where
-  pub wide : length cells ≡ 2 * cellCount regions
+  pub wide : length cells ≡ cellWidth * cellCount regions
   pub each : (c : ℕ) → c < cellCount regions → Fits regions (held cells c)

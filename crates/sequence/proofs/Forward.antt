@@ -26,7 +26,7 @@ use Rattle.session_forward.specs.Forward as session
 use Rattle.session_forward.specs.Forward.{forwardLook, Left, left, forwardTables}
 use Rattle.session.specs.declared.answer.StepAnswer.the-variants.{Moved, Refused}
 use Rattle.soundness.specs.Sound.{GoodWrite}
-use Rattle.sequence.specs.Calls.{stepped}
+use Rattle.sequence.specs.Calls.{ofStep}
 use Rattle.sequence.specs.Replay.{Machine, State, made, cellsAfter, writesAfter, usedAfter, rowAt, cellsAt, usedAt, positionAt, replayLook, replayed, stepAnswer, nextState}
 use Rattle.sequence.specs.Journal.{journalAfter, journalAt}
 use Rattle.sequence.specs.Claim.{Ruled, Spared}
@@ -120,14 +120,14 @@ module _ {M : Machine} {past : List ℕ} (started : Started M past) where
   -- ---- "No call in it met an operand without a rule"
 
   ruled-by : (s : State) (reply : List ℕ) → length (s .history) ≤ rows M → (o : Outcome (List Write)) → replayLook M s reply ≡ o
-      → Ruled (stepped (stepAnswer M s (joins s reply o)))
+      → Ruled (ofStep (stepAnswer M s (joins s reply o)))
   unfolding _>>=_
   ruled-by s reply l (ok ws) e = omega arith
   ruled-by s reply l (refuse n) e = λ z.
       let u = unruled M (started .prepared) s reply (e ∙ ap refuse z) in
       started .sound .ruled (cellsAt M s) (rowAt M s) reply (typed-after started (s .history) l) (u .row) (u .outcome-is)
 
-  pub forward-ruled : (s : State) (reply : List ℕ) → length (s .history) ≤ rows M → Ruled (stepped (stepAnswer M s (joins s reply (replayLook M s reply))))
+  pub forward-ruled : (s : State) (reply : List ℕ) → length (s .history) ≤ rows M → Ruled (ofStep (stepAnswer M s (joins s reply (replayLook M s reply))))
   forward-ruled s reply l = ruled-by s reply l (replayLook M s reply) refl
 
   -- ---- "a CALL changed only cells of regions in its write set"

@@ -18,7 +18,7 @@ use Rattle.session_forward.specs.Forward.{Left}
 use Rattle.session_back.specs.Back.{Back}
 use Rattle.operands.specs.Typed.{Typed}
 use Rattle.soundness.specs.Sound.{Sound}
-use Rattle.sequence.specs.Calls.{Call, forward, back, Answer, stepped, positionOf, Session, opened, Called, called, after, next, answers, end}
+use Rattle.sequence.specs.Calls.{Call, forward, back, Answer, ofStep, positionOf, Session, opened, Called, called, after, next, answers, end}
 use Rattle.sequence.specs.Replay.{Machine, machineOf, History, State, fresh, cellsAfter, writesAfter, usedAfter, cellsAt, usedAt, positionAt, replayed, stepAnswer, nextState, replayAnswer, replayNext, replayAnswers, replayEnd}
 use Rattle.sequence.specs.Journal.{stacked, stepsAfter, journalAfter, journalAt, usedEntries}
 use Rattle.sequence.specs.Claim.{Ruled, Framed, Faithful}
@@ -33,11 +33,11 @@ module _ {M : Machine} {past : List ℕ} (started : Started M past) where
   -- on a reached session it answers and leaves what the replay machine says, whose call leads to o
   record Follows (c : Call) (s : State) (rest : List ℕ) (o : Outcome State) : Type 0 where
     rest′ : List ℕ
-    called-is : called (M .tables) c (sessionAt M past s rest) ≡ leaves (stepped (stepAnswer M s o)) (cellsAt M (nextState s o) ++ past) (journalAt M (nextState s o) ++ rest′)
+    called-is : called (M .tables) c (sessionAt M past s rest) ≡ leaves (ofStep (stepAnswer M s o)) (cellsAt M (nextState s o) ++ past) (journalAt M (nextState s o) ++ rest′)
     within : Within M (nextState s o) rest′
 
   abbrev leftBack : List ℕ → Back → Called
-  leftBack journal b = leaves (stepped (b .answer)) (b .memory) journal
+  leftBack journal b = leaves (ofStep (b .answer)) (b .memory) journal
 
   follows-back : (h : History) (rest : List ℕ) → Within M (record { history = h }) rest → Follows back (record { history = h }) rest (replayed M back (record { history = h }))
   follows-back [] rest w =
@@ -57,12 +57,12 @@ module _ {M : Machine} {past : List ℕ} (started : Started M past) where
       let f = forwarded started s rest reply w in
       record {
         rest′ = f .rest′;
-        called-is = ap (λ (l : Left). leaves (stepped (l .answer)) (l .memory) (l .journal)) (forward-leaves started s rest reply w ∙ f .leaves-is);
+        called-is = ap (λ (l : Left). leaves (ofStep (l .answer)) (l .memory) (l .journal)) (forward-leaves started s rest reply w ∙ f .leaves-is);
         within = f .within;
       }
   follows back s rest w = follows-back (s .history) rest w
 
-  position-next : (s : State) (o : Outcome State) → positionOf (stepped (stepAnswer M s o)) ≡ positionAt M (nextState s o)
+  position-next : (s : State) (o : Outcome State) → positionOf (ofStep (stepAnswer M s o)) ≡ positionAt M (nextState s o)
   position-next s (ok s′) = refl
   position-next s (refuse n) = refl
 

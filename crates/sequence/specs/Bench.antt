@@ -13,7 +13,7 @@ use Rattle.journal.specs.Position.{firstPosition}
 use Rattle.session.specs.declared.answer.OpenAnswer.{OpenAnswer}
 use Rattle.session.specs.declared.answer.OpenAnswer.the-variants.{Opened, Error}
 use Rattle.session.specs.declared.answer.StepAnswer.the-variants.{Moved, Refused}
-use Rattle.sequence.specs.Calls.{Call, forward, back, Answer, stepped}
+use Rattle.sequence.specs.Calls.{Call, forward, back, Answer, ofStep}
 use Rattle.sequence.specs.BenchRun.{ADD-INTEGER, ADD-REAL, DIV, SHL, ASHR, MOVE, MOVE-REAL, EXCHANGE, LOAD, STORE, SET-PHASE, number, run}
 
 -- open's answer for a verdict of the type check, and where the rule of row 0 is not met
@@ -30,10 +30,10 @@ step = forward []
 
 -- its answers, with the position: instructions done, journal entries used
 abbrev moved : ℕ → ℕ → Answer
-moved done used = stepped (Moved (record { done = done; used = used }))
+moved done used = ofStep (Moved (record { done = done; used = used }))
 
 abbrev refused : ℕ → ℕ → ℕ → Answer
-refused number done used = stepped (Refused number (record { done = done; used = used }))
+refused number done used = ofStep (Refused number (record { done = done; used = used }))
 
 -- a[0], a[1], n[0] to n[2], o[0], r[0], r[1]: kind and word; n[0], o[0], r[0] and r[1] as given, 0 elsewhere
 abbrev cells : ℕ → ℕ → ℕ → ℕ → List ℕ

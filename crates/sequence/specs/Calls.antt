@@ -19,15 +19,15 @@ pub data Call : Type 0 where
 
 -- what a call of the list answers
 pub data Answer : Type 0 where
-  stepped : StepAnswer → Answer
+  ofStep : StepAnswer → Answer
 
 -- 0, or the refusal's number
 abbrev pub numberOf : Answer → ℕ
-numberOf (stepped a) = session.stepNumber a
+numberOf (ofStep a) = session.stepNumber a
 
 -- 01: "Every answer gives the position."
 abbrev pub positionOf : Answer → Position
-positionOf (stepped a) = session.positionOf a
+positionOf (ofStep a) = session.positionOf a
 
 pub record Session : Type 0 where
   pub memory : List ℕ
@@ -45,8 +45,8 @@ Called = Leaves Answer (List ℕ)
 -- `forwardTables` and `backTables` are the right sides of the promises of `forward` and `back` in console/src, on which console_c's `console_forward` and `console_back` rest.
 -- Back is lent the journal to read alone.
 abbrev pub called : Tables → Call → Session → Called
-called t (forward reply) s = let l = forwardTables t (s .memory) (s .journal) (s .position) reply in leaves (stepped (l .answer)) (l .memory) (l .journal)
-called t back s = let b = backTables t (s .memory) (s .journal) (s .position) in leaves (stepped (b .answer)) (b .memory) (s .journal)
+called t (forward reply) s = let l = forwardTables t (s .memory) (s .journal) (s .position) reply in leaves (ofStep (l .answer)) (l .memory) (l .journal)
+called t back s = let b = backTables t (s .memory) (s .journal) (s .position) in leaves (ofStep (b .answer)) (b .memory) (s .journal)
 
 -- demand 3: "each call gets the memory and journal that open got and the last position returned"
 abbrev pub after : Called → Session

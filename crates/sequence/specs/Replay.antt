@@ -15,7 +15,7 @@ use Rattle.machine.specs.Outcome.{outcomeAt}
 use Rattle.session.specs.Prepare.{entriesOf, preparedOf}
 use Rattle.session.specs.declared.answer.StepAnswer.{StepAnswer}
 use Rattle.session.specs.declared.answer.StepAnswer.the-variants.{Moved, Refused}
-use Rattle.sequence.specs.Calls.{Call, forward, back, Answer, stepped}
+use Rattle.sequence.specs.Calls.{Call, forward, back, Answer, ofStep}
 
 -- ---- what it is fed
 
@@ -127,7 +127,7 @@ module _ (M : Machine) where
   stepAnswer s (refuse number) = Refused number (positionAt s)
 
   abbrev pub replayAnswer : Call → State → Answer
-  replayAnswer c s = stepped (stepAnswer s (replayed c s))
+  replayAnswer c s = ofStep (stepAnswer s (replayed c s))
 
   abbrev pub replayNext : Call → State → State
   replayNext c s = nextState s (replayed c s)

@@ -22,7 +22,7 @@ use Rattle.session.specs.declared.answer.StepAnswer.the-variants.{Moved, Refuse
 
 -- ---- the looks
 
--- 11, what the row does (9 to 17), 13
+-- 11, the row's looks (`outcomeAt`: 9, then a CALL's or any other row's), 13
 unfoldable pub stepLook : Tables → List ℕ → ℕ → Position → List ℕ → Outcome (List Write)
 stepLook t cells entries p reply = do
   need (ltb (rowOf p) (instructionRows (t .instructions))) atEnd

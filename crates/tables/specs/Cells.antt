@@ -12,7 +12,7 @@ use Rattle.tables.specs.declared.cells.Cells.the-variants.{Count, TooMan
 abbrev pub cellLimit : ℕ
 cellLimit = 4096
 
--- what region r adds to the memory: its length
+-- what region r adds to the memory: its length, which is also the bound of its indices (operands' `indexFits`)
 abbrev pub cellsIn : List ℕ → ℕ → ℕ
 cellsIn regions r = regionLength regions r
 

@@ -16,6 +16,10 @@ octet = 2
 abbrev pub real : ℕ
 real = 3
 
+-- the kinds are the numbers below it
+abbrev pub kindCount : ℕ
+kindCount = 4
+
 -- a literal's code, beside the kinds: "4 integer literal, 5 real literal"
 abbrev pub integerLiteral : ℕ
 integerLiteral = 4
@@ -30,4 +34,4 @@ widthOf kind = cond (eqb kind bit) 1 (cond (eqb kind octet) 8 64)
 
 -- A kind, and a word of that kind. 01, Machine: "a read cell with kind above 3 or a word beyond its kind (BIT 1, OCTET 255) has no rule".
 unfoldable pub fitsKind : ℕ → ℕ → Bool
-fitsKind kind word = ltb kind 4 && ltb word (2 ^ widthOf kind)
+fitsKind kind word = ltb kind kindCount && ltb word (2 ^ widthOf kind)
