@@ -26,6 +26,285 @@ extern "C" {
 /* A position's words: steps done, entries used. */
 #define CONSOLE_POSITION 2
 
+/* ---- Words of the tables */
+
+/* Kinds of regions, cells, parameters and returns. */
+enum {
+    CONSOLE_KIND_BIT = 0,     /* word 0 or 1 */
+    CONSOLE_KIND_INTEGER = 1, /* any word, in two's complement */
+    CONSOLE_KIND_OCTET = 2,   /* word 0 to 255 */
+    CONSOLE_KIND_REAL = 3,    /* any word, the bits of a binary64 */
+    CONSOLE_NO_RETURN = 4     /* an extern's return kind where it has no return */
+};
+
+/* A region: name, kind, length. */
+#define CONSOLE_REGION_WIDTH 3
+#define CONSOLE_REGION_LIMIT 64
+/* An extern: name, return kind, first parameter row, parameter count. */
+#define CONSOLE_EXTERN_WIDTH 4
+#define CONSOLE_EXTERN_LIMIT 32
+/* A parameter: name, mutable 0 or 1, shape, kind, length (0 unless a fixed vector). */
+#define CONSOLE_PARAMETER_WIDTH 5
+#define CONSOLE_PARAMETER_LIMIT 256
+/* A node: tag, two words. A parent stands before its children, the left one first. */
+#define CONSOLE_NODE_WIDTH 3
+#define CONSOLE_NODE_LIMIT 2048
+/* An argument: form, two words. */
+#define CONSOLE_ARGUMENT_WIDTH 3
+#define CONSOLE_ARGUMENT_LIMIT 1024
+/* An instruction: family, operator, first name, index, second name, index, source form, its two
+ * words. */
+#define CONSOLE_INSTRUCTION_WIDTH 9
+#define CONSOLE_INSTRUCTION_LIMIT 512
+
+/* Shapes of parameters. */
+enum {
+    CONSOLE_SHAPE_SCALAR = 0,
+    CONSOLE_SHAPE_FIXED_VECTOR = 1,   /* a whole region of the parameter's kind and length */
+    CONSOLE_SHAPE_VARIABLE_VECTOR = 2 /* a whole region of the parameter's kind */
+};
+
+/* Tags of nodes, with their two words; unused ones are 0. */
+enum {
+    CONSOLE_NODE_ADDRESS = 0,       /* name, index */
+    CONSOLE_NODE_FUNCTION_CALL = 1, /* one child */
+    CONSOLE_NODE_INFIX = 2,         /* two children */
+    CONSOLE_NODE_NUMBER = 3,        /* bits of the real part, of the imaginary part */
+    CONSOLE_NODE_PI = 4,
+    CONSOLE_NODE_PREFIX = 5,  /* one child */
+    CONSOLE_NODE_VARIABLE = 6 /* name */
+};
+
+/* Forms of arguments, with their two words. */
+enum {
+    CONSOLE_ARGUMENT_IDENTIFIER = 0, /* name, 0 */
+    CONSOLE_ARGUMENT_REFERENCE = 1,  /* name, index */
+    CONSOLE_ARGUMENT_IMMEDIATE = 2   /* bits of the real part, of the imaginary part */
+};
+
+/* Families of instructions, each with its four operand words; then the source forms it takes. */
+enum {
+    CONSOLE_FAMILY_ARITHMETIC = 0,   /* destination name, index, 0, 0; any but none */
+    CONSOLE_FAMILY_COMPARISON = 1,   /* destination name, index, left name, index; any but none */
+    CONSOLE_FAMILY_BINARY_LOGIC = 2, /* destination name, index, 0, 0; integer literal, reference */
+    CONSOLE_FAMILY_UNARY = 3,        /* name, index, 0, 0; none */
+    CONSOLE_FAMILY_MOVE = 4,         /* destination name, index, 0, 0; any but none */
+    CONSOLE_FAMILY_EXCHANGE = 5,     /* left name, index, right name, index; none */
+    CONSOLE_FAMILY_LOAD = 6,         /* destination name, index, region, 0; reference: the offset */
+    CONSOLE_FAMILY_STORE = 7,        /* region, 0, offset name, index; any but none */
+    CONSOLE_FAMILY_FRAME = 8,        /* first node, node count, 0, 0: exactly one tree; none */
+    CONSOLE_FAMILY_CALL = 9,         /* extern name, first argument, argument count, 0; none */
+    CONSOLE_FAMILY_OTHER = 10        /* 0, 0, 0, 0; none */
+};
+
+/* Operators, family by family; in the other families the word is 0. */
+enum {
+    /* arithmetic */
+    CONSOLE_OPERATOR_ADD = 0,
+    CONSOLE_OPERATOR_SUBTRACT = 1, /* SUB */
+    CONSOLE_OPERATOR_DIVIDE = 2,   /* DIV */
+    CONSOLE_OPERATOR_MULTIPLY = 3, /* MUL */
+
+    /* comparison */
+    CONSOLE_OPERATOR_EQUAL = 0,                 /* EQ */
+    CONSOLE_OPERATOR_GREATER_THAN_OR_EQUAL = 1, /* GE */
+    CONSOLE_OPERATOR_GREATER_THAN = 2,          /* GT */
+    CONSOLE_OPERATOR_LESS_THAN_OR_EQUAL = 3,    /* LE */
+    CONSOLE_OPERATOR_LESS_THAN = 4,             /* LT */
+
+    /* binary logic */
+    CONSOLE_OPERATOR_AND = 0,
+    CONSOLE_OPERATOR_IOR = 1,
+    CONSOLE_OPERATOR_XOR = 2,
+    CONSOLE_OPERATOR_SHL = 3,
+    CONSOLE_OPERATOR_SHR = 4,
+    CONSOLE_OPERATOR_ASHR = 5,
+
+    /* unary */
+    CONSOLE_OPERATOR_NEG = 0,
+    CONSOLE_OPERATOR_NOT = 1,
+
+    /* frame */
+    CONSOLE_OPERATOR_SET_FREQUENCY = 0,
+    CONSOLE_OPERATOR_SET_PHASE = 1,
+    CONSOLE_OPERATOR_SET_SCALE = 2,
+    CONSOLE_OPERATOR_SHIFT_FREQUENCY = 3,
+    CONSOLE_OPERATOR_SHIFT_PHASE = 4,
+
+    /* other */
+    CONSOLE_OPERATOR_NOP = 0,
+    CONSOLE_OPERATOR_ANY_OTHER = 1 /* any instruction that the console does not step */
+};
+
+/* Forms of an instruction's source, with their two words. */
+enum {
+    CONSOLE_SOURCE_INTEGER_LITERAL = 0, /* the literal, 0 */
+    CONSOLE_SOURCE_REAL_LITERAL = 1,    /* its bits, 0 */
+    CONSOLE_SOURCE_REFERENCE = 2,       /* name, index */
+    CONSOLE_SOURCE_NONE = 3             /* 0, 0 */
+};
+
+/* ---- Words of the other buffers */
+
+/* A cell: kind, word. All regions together have at most so many. */
+#define CONSOLE_CELL_WIDTH 2
+#define CONSOLE_CELL_LIMIT 4096
+/* A journal entry: cell, old kind, old word; after a step's entries one of change count, 0, 0. */
+#define CONSOLE_ENTRY_WIDTH 3
+#define CONSOLE_ENTRY_LIMIT 2048
+/* A reply's row: argument, offset, kind, word. The argument is a resolved row's number, from 0. */
+#define CONSOLE_REPLY_WIDTH 4
+#define CONSOLE_REPLY_LIMIT 64
+/* A resolved row: what it is, and four words. */
+#define CONSOLE_RESOLVED_WIDTH 5
+/* An error row: whose, the parameter's index (0 for the return), the error, four detail words. */
+#define CONSOLE_ERROR_WIDTH 7
+/* A type error: its kind, row, spot of the operand, spot of `src` or 0, two codes. */
+#define CONSOLE_TYPE_ERROR_WIDTH 6
+/* What a walk finds: 1, name, index; or at the end 0, 0, 0. */
+#define CONSOLE_FOUND_WIDTH 3
+
+/* A resolved row's first word, with the four after it. */
+enum {
+    CONSOLE_RESOLVED_VECTOR = 0,    /* name, kind, length, mutable */
+    CONSOLE_RESOLVED_REFERENCE = 1, /* name, index, kind, mutable */
+    CONSOLE_RESOLVED_IMMEDIATE = 2  /* bits of the real part, of the imaginary part, kind, 0 */
+};
+
+/* An error row's first word: whose argument is in error. */
+enum { CONSOLE_ERROR_OF_RETURN = 0, CONSOLE_ERROR_OF_PARAMETER = 1 };
+
+/* An error row's error, with its details; unused ones are 0. */
+enum {
+    CONSOLE_ARGUMENT_ERROR_UNDECLARED = 1,           /* name */
+    CONSOLE_ARGUMENT_ERROR_VECTOR = 2,               /* expected kind, length, found kind, length */
+    CONSOLE_ARGUMENT_ERROR_SCALAR = 3,               /* expected kind, found kind */
+    CONSOLE_ARGUMENT_ERROR_NO_VECTOR = 4,            /* the argument's three words */
+    CONSOLE_ARGUMENT_ERROR_IMMEDIATE_RETURN = 5,     /* the argument's three words */
+    CONSOLE_ARGUMENT_ERROR_IMMEDIATE_FOR_MUTABLE = 6 /* the parameter's name */
+};
+
+/* Kinds of type errors, with their two codes. */
+enum {
+    CONSOLE_TYPE_ERROR_UNDEFINED = 1,     /* not declared: absent, absent */
+    CONSOLE_TYPE_ERROR_DATA_TYPE = 2,     /* kinds differ: those of the two spots */
+    CONSOLE_TYPE_ERROR_REAL_REQUIRED = 3, /* in a frame: found, absent */
+    CONSOLE_TYPE_ERROR_OPERAND = 4        /* not for this operator: found, required */
+};
+
+/* Spots of operands. */
+enum {
+    CONSOLE_SPOT_NONE = 0, /* where an error has no `src` */
+    CONSOLE_SPOT_FIRST = 1,
+    CONSOLE_SPOT_SECOND = 2,
+    CONSOLE_SPOT_SOURCE = 3,
+    CONSOLE_SPOT_NODE = 4 /* in a frame: this plus the node's place in its tree, from 0 */
+};
+
+/* A type error's codes: the kinds 0 to 3, and these. */
+enum {
+    CONSOLE_CODE_INTEGER_LITERAL = 4,
+    CONSOLE_CODE_REAL_LITERAL = 5,
+    CONSOLE_CODE_IMAGINARY = 6, /* a number whose imaginary part is above 2^-52 in size */
+    CONSOLE_CODE_VARIABLE = 7,
+    CONSOLE_CODE_ABSENT = 8,
+    CONSOLE_CODE_REAL_OR_INTEGRAL = 9, /* required: INTEGER or REAL */
+    CONSOLE_CODE_INTEGRAL = 10,        /* required: no REAL; of an offset: INTEGER */
+    CONSOLE_CODE_BIT = 11              /* required: BIT */
+};
+
+/* ---- Answers */
+
+/* 0, and the refusals, by who can mend them. Each one's cause in words: console_cause. */
+enum {
+    CONSOLE_ACCEPTED = 0,
+
+    /* the loader */
+    CONSOLE_REFUSAL_TABLE_SHAPE = 1,
+    CONSOLE_REFUSAL_WORD_NOT_ALLOWED = 2,
+    CONSOLE_REFUSAL_NAME_TWICE = 3,
+    CONSOLE_REFUSAL_BUFFER_SIZE = 4,
+
+    /* the program's author */
+    CONSOLE_REFUSAL_TYPE_ERROR = 5,
+    CONSOLE_REFUSAL_EXTERN_NOT_FOUND = 6,
+    CONSOLE_REFUSAL_ARGUMENT_COUNT = 7,
+    CONSOLE_REFUSAL_ARGUMENT_ERRORS = 8,
+    CONSOLE_REFUSAL_OTHER_INSTRUCTION = 9,
+    CONSOLE_REFUSAL_TOO_MANY_CELLS = 10,
+
+    /* the student */
+    CONSOLE_REFUSAL_AT_END = 11,
+    CONSOLE_REFUSAL_NOTHING_TO_TAKE_BACK = 12,
+    CONSOLE_REFUSAL_JOURNAL_FULL = 13,
+
+    /* the running program */
+    CONSOLE_REFUSAL_INDEX_PAST_LENGTH = 14,
+    CONSOLE_REFUSAL_ZERO_DIVISOR = 15,
+    CONSOLE_REFUSAL_NEGATIVE_SHIFT_COUNT = 16,
+
+    /* the extern routine */
+    CONSOLE_REFUSAL_UNFIT_REPLY = 17,
+
+    /* a foreign writer: whatever wrote memory, journal or position other than these calls */
+    CONSOLE_REFUSAL_NO_RULE = 18,
+    CONSOLE_REFUSAL_FOREIGN_POSITION = 19
+};
+
+/* The cause of an answer in words, a string that is not to be freed. A number that no call returns
+ * has one too. */
+static inline const char *console_cause(uint64_t number)
+{
+    switch (number) {
+    case CONSOLE_ACCEPTED:
+        return "accepted";
+    case CONSOLE_REFUSAL_TABLE_SHAPE:
+        return "a table is not whole rows, or has more rows than its limit";
+    case CONSOLE_REFUSAL_WORD_NOT_ALLOWED:
+        return "a word is not allowed where it stands, a range lies outside its table or is not "
+               "exactly one tree, or the chosen row is absent or of another family";
+    case CONSOLE_REFUSAL_NAME_TWICE:
+        return "two regions or two externs have one name";
+    case CONSOLE_REFUSAL_BUFFER_SIZE:
+        return "a lent buffer is too short, or the journal is not whole entries or too long";
+    case CONSOLE_REFUSAL_TYPE_ERROR:
+        return "the program has a type error";
+    case CONSOLE_REFUSAL_EXTERN_NOT_FOUND:
+        return "a CALL names an extern that is not declared";
+    case CONSOLE_REFUSAL_ARGUMENT_COUNT:
+        return "a CALL has more or fewer arguments than its extern takes";
+    case CONSOLE_REFUSAL_ARGUMENT_ERRORS:
+        return "arguments of a CALL do not fit their parameters";
+    case CONSOLE_REFUSAL_OTHER_INSTRUCTION:
+        return "an instruction is none that the console steps";
+    case CONSOLE_REFUSAL_TOO_MANY_CELLS:
+        return "the regions have more than 4,096 cells";
+    case CONSOLE_REFUSAL_AT_END:
+        return "the program is at its end";
+    case CONSOLE_REFUSAL_NOTHING_TO_TAKE_BACK:
+        return "there is no step to take back";
+    case CONSOLE_REFUSAL_JOURNAL_FULL:
+        return "the journal is full: the step's changes and one entry more do not fit";
+    case CONSOLE_REFUSAL_INDEX_PAST_LENGTH:
+        return "an index is negative, or at or past the length of its region";
+    case CONSOLE_REFUSAL_ZERO_DIVISOR:
+        return "an INTEGER is divided by zero";
+    case CONSOLE_REFUSAL_NEGATIVE_SHIFT_COUNT:
+        return "a shift count is negative";
+    case CONSOLE_REFUSAL_UNFIT_REPLY:
+        return "the reply does not fit the CALL, or there is one and the row is no CALL";
+    case CONSOLE_REFUSAL_NO_RULE:
+        return "a cell that is read has no rule: its kind or its word is foreign; or a name is not "
+               "declared";
+    case CONSOLE_REFUSAL_FOREIGN_POSITION:
+        return "the position lies past its tables, or the journal cannot be read";
+    default:
+        return "no answer of this library";
+    }
+}
+
+/* ---- The calls */
+
 /* The type check: 1, 2, 3, 5. error on 5: kind, row, spot, src spot, two codes. */
 uint64_t console_check(CONSOLE_TABLES, uint64_t error[6]);
 

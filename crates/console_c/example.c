@@ -7,24 +7,42 @@
 
 #include <stdio.h>
 
-/* a BIT[2], n INTEGER[3] */
-static const uint64_t regions[] = {0, 0, 2, 1, 1, 3};
-/* EXTERN f : INTEGER (x : mut INTEGER) */
-static const uint64_t externs[] = {7, 1, 0, 1};
-static const uint64_t parameters[] = {5, 1, 0, 1, 0};
+/* Names are any numbers: a and n are regions, f an extern, x its parameter. */
+enum { A = 0, N = 1, X = 5, F = 7 };
+
+/* DECLARE a BIT[2]; DECLARE n INTEGER[3] */
+static const uint64_t regions[] = {A, CONSOLE_KIND_BIT, 2, N, CONSOLE_KIND_INTEGER, 3};
+/* f returns an INTEGER and takes x, a mutable INTEGER: its one parameter is row 0 */
+static const uint64_t externs[] = {F, CONSOLE_KIND_INTEGER, 0, 1};
+static const uint64_t parameters[] = {X, 1, CONSOLE_SHAPE_SCALAR, CONSOLE_KIND_INTEGER, 0};
 /* n[1] + (-n[1]) */
-static const uint64_t nodes[] = {2, 0, 0, 0, 1, 1, 5, 0, 0, 0, 1, 1};
-/* n[0] n[2] */
-static const uint64_t arguments[] = {1, 1, 0, 1, 1, 2};
-/* CALL f n[0] n[2] */
-static const uint64_t call[] = {9, 0, 7, 0, 2, 0, 3, 0, 0};
+static const uint64_t nodes[] = {
+    CONSOLE_NODE_INFIX,   0, 0, /* its left child comes next, then its right one */
+    CONSOLE_NODE_ADDRESS, N, 1,
+    CONSOLE_NODE_PREFIX,  0, 0,
+    CONSOLE_NODE_ADDRESS, N, 1,
+};
+/* n[0] for the return, n[2] for x */
+static const uint64_t arguments[] = {
+    CONSOLE_ARGUMENT_REFERENCE, N, 0,
+    CONSOLE_ARGUMENT_REFERENCE, N, 2,
+};
+/* CALL f n[0] n[2]: two arguments, from row 0 on */
+static const uint64_t call[] = {CONSOLE_FAMILY_CALL, 0, F, 0, 2, 0, CONSOLE_SOURCE_NONE, 0, 0};
 /* ADD a[0] 1 */
-static const uint64_t add[] = {0, 0, 0, 0, 0, 0, 0, 1, 0};
+static const uint64_t add[] = {
+    CONSOLE_FAMILY_ARITHMETIC, CONSOLE_OPERATOR_ADD, A, 0, 0, 0,
+    CONSOLE_SOURCE_INTEGER_LITERAL, 1, 0,
+};
+
+/* room for the CALL's two arguments, the five cells, and three journal entries */
+enum { ARGUMENTS = 2, CELLS = 5, ENTRIES = 3 };
 
 #define LENGTH(x) (sizeof(x) / sizeof((x)[0]))
 #define TABLES(program)                                                                     \
     regions, LENGTH(regions), externs, LENGTH(externs), parameters, LENGTH(parameters), nodes, \
         LENGTH(nodes), arguments, LENGTH(arguments), program, LENGTH(program)
+#define SESSION memory, LENGTH(memory), journal, LENGTH(journal), position
 
 static void print(const char *label, uint64_t number, const uint64_t *words, size_t n)
 {
@@ -36,34 +54,39 @@ static void print(const char *label, uint64_t number, const uint64_t *words, siz
 
 int main(void)
 {
-    uint64_t error[6] = {0}, rows[14] = {0}, count[1] = {0};
-    uint64_t reads[2] = {0}, writes[2] = {0}, counts[2] = {0}, place[1] = {0}, found[3] = {0};
-
+    uint64_t error[CONSOLE_TYPE_ERROR_WIDTH] = {0};
     print("check CALL", console_check(TABLES(call), error), error, 0);
-    print("check ADD a[0] 1", console_check(TABLES(add), error), error, 6);
+    print("check ADD a[0] 1", console_check(TABLES(add), error), error, LENGTH(error));
+
+    uint64_t rows[CONSOLE_ERROR_WIDTH * ARGUMENTS] = {0}, count[1] = {0};
     uint64_t resolved = console_resolve(TABLES(call), 0, rows, LENGTH(rows), count);
-    print("resolve", resolved, rows, 5 * count[0]);
-    uint64_t accessed = console_access(TABLES(call), 0, reads, 2, writes, 2, counts);
+    print("resolve", resolved, rows, CONSOLE_RESOLVED_WIDTH * count[0]);
+
+    uint64_t reads[ARGUMENTS] = {0}, writes[ARGUMENTS] = {0}, counts[2] = {0};
+    uint64_t accessed =
+        console_access(TABLES(call), 0, reads, LENGTH(reads), writes, LENGTH(writes), counts);
     print("access reads", accessed, reads, counts[0]);
     print("access writes", accessed, writes, counts[1]);
+
+    uint64_t place[1] = {0}, found[CONSOLE_FOUND_WIDTH] = {0};
     do {
         uint64_t walked = console_reference(nodes, LENGTH(nodes), 0, 4, place, found);
-        print("reference", walked, found, 3);
+        print("reference", walked, found, LENGTH(found));
     } while (found[0] == 1);
 
-    /* two words a cell, three an entry; the reply puts 5 into n[0], the return, and 7 into n[2] */
-    uint64_t memory[10], journal[9], position[CONSOLE_POSITION] = {0};
-    const uint64_t reply[] = {0, 0, 1, 5, 1, 0, 1, 7};
-    uint64_t opened = console_open(TABLES(call), memory, 10, journal, 9, position, error);
+    /* the reply puts 5 into n[0], the return, and 7 into n[2] */
+    uint64_t memory[CONSOLE_CELL_WIDTH * CELLS], journal[CONSOLE_ENTRY_WIDTH * ENTRIES];
+    uint64_t position[CONSOLE_POSITION] = {0};
+    const uint64_t reply[] = {0, 0, CONSOLE_KIND_INTEGER, 5, 1, 0, CONSOLE_KIND_INTEGER, 7};
+    uint64_t opened = console_open(TABLES(call), SESSION, error);
     print("open", opened, position, CONSOLE_POSITION);
-    uint64_t stepped =
-        console_forward(TABLES(call), memory, 10, journal, 9, position, reply, LENGTH(reply));
+    uint64_t stepped = console_forward(TABLES(call), SESSION, reply, LENGTH(reply));
     print("forward", stepped, position, CONSOLE_POSITION);
-    print("cells", 0, memory, 10);
-    stepped = console_forward(TABLES(call), memory, 10, journal, 9, position, reply, 0);
+    print("cells", 0, memory, LENGTH(memory));
+    stepped = console_forward(TABLES(call), SESSION, reply, 0);
     print("forward at the end", stepped, position, CONSOLE_POSITION);
-    uint64_t taken_back = console_back(TABLES(call), memory, 10, journal, 9, position);
+    uint64_t taken_back = console_back(TABLES(call), SESSION);
     print("back", taken_back, position, CONSOLE_POSITION);
-    print("cells", 0, memory, 10);
+    print("cells", 0, memory, LENGTH(memory));
     return 0;
 }
