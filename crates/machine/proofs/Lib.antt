@@ -4,3 +4,4 @@ pub mod Past
 pub mod Reaches
 pub mod WritesLaws
 pub mod Exchange
+pub mod Looked

@@ -1,6 +1,6 @@
 -- Whatever the cells hold, a row that is no CALL writes to cells that are there, as many as its family has changes. Assumes nothing.
 use Prim.Native.Nat.{ℕ, zero, suc, _<_}
-use mathlib.Core.Bool.{true}
+use mathlib.Core.Bool.{Bool, true}
 use mathlib.Core.List.{List, [], _∷_}
 use mathlib.Core.Path.{_≡_, refl, subst}
 use native.Mathlib.Omega.{arith}
@@ -21,7 +21,7 @@ use Rattle.journal.specs.Each.{Each, none, also}
 use Rattle.operands.specs.Address.{indexedOf, namesOf, addressesOf}
 use Rattle.operands.specs.Cells.{cellKind, readOf, sourceOf, offsetOf}
 use Rattle.operators.specs.Operators.{arithmeticKinds, arithmeticResult, comparisonKinds, logicKinds, logicResult, unaryKinds}
-use Rattle.machine.specs.Families.{putInto, noWrites, families, arithmeticOf, comparisonOf, logicOf, unaryOf, moveOf, exchangeOf, loadOf, storeOf, familyOf}
+use Rattle.machine.specs.Families.{putInto, noWrites, families, combinedOf, arithmeticOf, comparisonOf, logicOf, unaryOf, moveOf, exchangeOf, loadOf, storeOf, familyOf}
 use Rattle.machine.specs.Outcome.{plainOutcome}
 use Rattle.operands.specs.declared.cell.Value.{Value}
 use Rattle.operands.specs.declared.address.NamedRegions.{NamedRegions}
@@ -87,6 +87,13 @@ module _ {regions : List ℕ} (laid : Laid regions) (cells : List ℕ) where
       second : indexesSecond f ≡ true → a .second < cellCount regions
       region : namesFirst f ≡ true → n .first < regionRows regions
 
+    -- arithmetic and binary logic
+    combined-within : (kinds : ℕ → ℕ → Bool) (result : ℕ → ℕ → ℕ → Outcome ℕ) → a .first < cellCount regions → Reaches 1 (combinedOf kinds result cells x a)
+    unfolding combinedOf
+    combined-within kinds result h =
+        bind (any (readOf cells (a .first))) (λ d u. bind (any (sourceOf cells x (a .source))) (λ s u. tested noRule (kinds (d .kind) (s .kind)) tt (λ e.
+        bind (any (result (d .kind) (d .word) (s .word))) (λ w u. once h))))
+
     picked : {f : ℕ} (m : ℕ) → x .family ≡ f → Reaches m (caseOf f (families regions cells x n a) noWrites) → Reaches m (familyOf regions cells x n a)
     unfolding familyOf
     picked m q h = subst (λ (o : Outcome (List Write)). Reaches m o) (at-key (families regions cells x n a) noWrites q) h
@@ -94,14 +101,12 @@ module _ {regions : List ℕ} (laid : Laid regions) (cells : List ℕ) where
     family-within : (f : ℕ) → x .family ≡ f → Targets f → Reaches (changesOf f) (familyOf regions cells x n a)
     unfolding changesOf caseOf indexesFirst indexesSecond namesFirst operandsOf arithmeticOf comparisonOf logicOf unaryOf moveOf exchangeOf loadOf storeOf
     family-within zero q t = picked _ q
-        (bind (any (readOf cells (a .first))) (λ d u. bind (any (sourceOf cells x (a .source))) (λ s u. tested noRule (arithmeticKinds (d .kind) (s .kind)) tt (λ e.
-        bind (any (arithmeticResult (x .operator) (d .kind) (d .word) (s .word))) (λ w u. once (t .first refl))))))
+        (combined-within arithmeticKinds (arithmeticResult (x .operator)) (t .first refl))
     family-within (suc zero) q t = picked _ q
         (bind (any (readOf cells (a .second))) (λ l u. bind (any (sourceOf cells x (a .source))) (λ s u. tested noRule (comparisonKinds (l .kind) (s .kind)) tt (λ e.
         once (t .first refl)))))
     family-within (suc (suc zero)) q t = picked _ q
-        (bind (any (readOf cells (a .first))) (λ d u. bind (any (sourceOf cells x (a .source))) (λ s u. tested noRule (logicKinds (d .kind) (s .kind)) tt (λ e.
-        bind (any (logicResult (x .operator) (d .kind) (d .word) (s .word))) (λ w u. once (t .first refl))))))
+        (combined-within logicKinds (logicResult (x .operator)) (t .first refl))
     family-within (suc (suc (suc zero))) q t = picked _ q
         (bind (any (readOf cells (a .first))) (λ d u. tested noRule (unaryKinds (x .operator) (d .kind)) tt (λ e. once (t .first refl))))
     family-within (suc (suc (suc (suc zero)))) q t = picked _ q

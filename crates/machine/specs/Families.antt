@@ -1,5 +1,6 @@
 -- What a row of each family does, from its operands' cells on. 01, Order: "18 row's cells, 14 index from a cell, 18 cell reached, 15, 16", then the writes.
 use Prim.Native.Nat.{ℕ}
+use mathlib.Core.Bool.{Bool}
 use mathlib.Core.List.{List, [], _∷_}
 use lib.Dec.{eqb, ltb}
 use Rattle.words.specs.Kind.{bit, real, integerLiteral, realLiteral, widthOf}
@@ -43,13 +44,19 @@ putInto cells c s = caseOf (s .kind) (literals cells c (s .word)) (copied c s)
 
 -- ---- the families; x is the row, n its regions, a its addresses
 
-unfoldable pub arithmeticOf : List ℕ → Instruction → Addresses → Outcome (List Write)
-arithmeticOf cells x a = do
+-- The destination combined with the source, into the destination: `kinds` says which kinds have a rule, `result` takes the destination's kind and both words.
+-- 01, Order: "18 row's cells", then "15, 16"; "A step reads kinds from cells, never declarations".
+unfoldable pub combinedOf : (ℕ → ℕ → Bool) → (ℕ → ℕ → ℕ → Outcome ℕ) → List ℕ → Instruction → Addresses → Outcome (List Write)
+combinedOf kinds result cells x a = do
   d ← readOf cells (a .first)
   s ← sourceOf cells x (a .source)
-  need (arithmeticKinds (d .kind) (s .kind)) noRule
-  w ← arithmeticResult (x .operator) (d .kind) (d .word) (s .word)
+  need (kinds (d .kind) (s .kind)) noRule
+  w ← result (d .kind) (d .word) (s .word)
   ok (one (a .first) (d .kind) w)
+
+-- "Arithmetic: equal kinds (a literal counts as its own), INTEGER or REAL."; "15 INTEGER zero divisor"
+unfoldable pub arithmeticOf : List ℕ → Instruction → Addresses → Outcome (List Write)
+arithmeticOf cells x a = combinedOf arithmeticKinds (arithmeticResult (x .operator)) cells x a
 
 -- "A cell only overwritten is not read": the destination's kind is not looked at
 unfoldable pub comparisonOf : List ℕ → Instruction → Addresses → Outcome (List Write)
@@ -59,13 +66,9 @@ comparisonOf cells x a = do
   need (comparisonKinds (l .kind) (s .kind)) noRule
   ok (one (a .first) bit (comparisonResult (x .operator) (l .kind) (l .word) (s .word)))
 
+-- "Binary logic: destination, then source: declared, not REAL"; "And, Ior, Xor: source's low bits at the destination's width"; "16 negative shift count"
 unfoldable pub logicOf : List ℕ → Instruction → Addresses → Outcome (List Write)
-logicOf cells x a = do
-  d ← readOf cells (a .first)
-  s ← sourceOf cells x (a .source)
-  need (logicKinds (d .kind) (s .kind)) noRule
-  w ← logicResult (x .operator) (d .kind) (d .word) (s .word)
-  ok (one (a .first) (d .kind) w)
+logicOf cells x a = combinedOf logicKinds (logicResult (x .operator)) cells x a
 
 unfoldable pub unaryOf : List ℕ → Instruction → Addresses → Outcome (List Write)
 unaryOf cells x a = do

@@ -115,7 +115,7 @@ unfolding fitsKind widthOf lowBits signed wordOf integerIsNegative integerDivide
     exchangeRule loadRule loadOffset storeRule storeSource frameRule treeVerdict nodeVerdict numberVerdict
     put applied flatten olds log closing entered journaled entriesAt restored undone present
     operandsOf namesFirst namesSecond indexesFirst indexesSecond zeros zerosFrom declaredKind regionOf regionAmong outcomeAt outcomeOf plainOutcome namesOf namedOf addressesOf writtenOf indexedOf indexFits addressOf
-    readOf sourceOf offsetOf families.familyOf families.putInto families.arithmeticOf families.logicOf families.moveOf families.exchangeOf
+    readOf sourceOf offsetOf families.familyOf families.putInto families.combinedOf families.arithmeticOf families.logicOf families.moveOf families.exchangeOf
     families.loadOf arithmeticResult integerResult logicResult
     openTables openCells openVerdict programVerdict preparedOf tablesLook buffersFit programLook noOther callsLook callLook withTail
     forwardTables stepped forwardLook placedLook stepLook roomFor positionFits backTables takenBack backLook journalLook answers end

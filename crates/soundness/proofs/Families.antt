@@ -1,18 +1,21 @@
 -- Each family, on operands of the declared kinds: it is not refused with 18, and its writes keep the kinds. Assumes nothing.
-use Prim.Native.Nat.{ℕ}
+use Prim.Native.Nat.{ℕ, _^_, _<_}
+use mathlib.Core.Bool.{Bool, true}
 use mathlib.Core.List.{List}
-use mathlib.Core.Path.{sym, _∙_}
+use mathlib.Core.Path.{_≡_, sym, _∙_}
 use native.Mathlib.Omega.{arith}
 use borrow.Author.Tests.{eqb-true}
-use Rattle.words.specs.Kind.{widthOf}
+use Rattle.words.specs.Kind.{widthOf, fitsKind}
 use Rattle.words.specs.Fits.{fits-of}
+use Rattle.tables.specs.Outcome.{Outcome}
 use Rattle.tables.specs.declared.rows.Instruction.{Instruction}
 use Rattle.journal.specs.Each.{also}
 use Rattle.operands.specs.Cells.{sourceOf}
+use Rattle.operators.specs.Operators.{arithmeticKinds, arithmeticResult, logicKinds, logicResult}
 use Rattle.machine.specs.Families as F
 use Rattle.operands.specs.declared.address.NamedRegions.{NamedRegions}
 use Rattle.operands.specs.declared.address.Addresses.{Addresses}
-use Rattle.machine.proofs.Ends.{Ends, Ruled, fine, bind, ruled}
+use Rattle.machine.proofs.Ends.{Ends, Ruled, fine, bind, ruled, weaken}
 use Rattle.machine.proofs.WritesLaws.{single}
 use Rattle.operands.specs.Typed.{Typed}
 use Rattle.soundness.proofs.Regions.{Region, Cell, indexed-ends}
@@ -26,12 +29,19 @@ module _ {regions cells : List ℕ} (typed : Typed regions cells) (x : Instructi
   abbrev pub Source : Type 0
   Source = Ends Ruled (Holds s) (sourceOf cells x (a .source))
 
+  -- arithmetic and binary logic: the kinds have a rule, and the result is a word of the destination's kind or the refusal is not 18
+  combined-sound : (kinds : ℕ → ℕ → Bool) (result : ℕ → ℕ → ℕ → Outcome ℕ) → Cell regions d (a .first) → Source → kinds d s ≡ true
+      → ((v u : ℕ) → v < 2 ^ widthOf d → Ends Ruled (λ z. fitsKind d z ≡ true) (result d v u)) → Keeps regions (F.combinedOf kinds result cells x a)
+  unfolding F.combinedOf
+  combined-sound kinds result t src rule ends =
+      bind (read-ends typed t) (λ v h. bind src (λ u k. ruled (rw (h .kind-is, k .kind-is) rule)
+      (bind (rw (h .kind-is) (ends (v .word) (u .word) (h .below))) (λ z f. fine (single (kept t (h .kind-is) f))))))
+
   pub arithmetic-sound : Cell regions d (a .first) → Source → Trues (C.arithmeticWants d s) → Keeps regions (F.arithmeticOf cells x a)
   unfolding F.arithmeticOf
   arithmetic-sound t src (_, (_, (kinds, (wide, _)))) =
-      bind (read-ends typed t) (λ v h. bind src (λ u k. ruled (rw (h .kind-is, k .kind-is) kinds)
-      (bind (arithmetic-ends (x .operator) (v .kind) (v .word) (u .word)) (λ z b.
-      fine (single (kept-below t (h .kind-is) (rw (eqb-true (widthOf d) 64 wide) b)))))))
+      combined-sound arithmeticKinds (arithmeticResult (x .operator)) t src kinds (λ v u h.
+      weaken (λ z b. fits-of d z (t .small) (rw (eqb-true (widthOf d) 64 wide) b)) (arithmetic-ends (x .operator) d v u))
 
   pub comparison-sound : Cell regions d (a .first) → Cell regions e (a .second) → Source → Trues (C.comparisonWants d e s) → Keeps regions (F.comparisonOf cells x a)
   unfolding F.comparisonOf
@@ -43,9 +53,7 @@ module _ {regions cells : List ℕ} (typed : Typed regions cells) (x : Instructi
   pub logic-sound : Cell regions d (a .first) → Source → Trues (C.logicWants d s) → Keeps regions (F.logicOf cells x a)
   unfolding F.logicOf
   logic-sound t src (_, (_, (kinds, _))) =
-      bind (read-ends typed t) (λ v h. bind src (λ u k. ruled (rw (h .kind-is, k .kind-is) kinds)
-      (bind (rw (h .kind-is) (logic-ends d (v .word) (u .word) (fits-of d (v .word) (t .small) (h .below)) (x .operator))) (λ z f.
-      fine (single (kept t (h .kind-is) f))))))
+      combined-sound logicKinds (logicResult (x .operator)) t src kinds (λ v u h. logic-ends d v u (fits-of d v (t .small) h) (x .operator))
 
   pub unary-sound : Cell regions d (a .first) → Trues (C.unaryWants (x .operator) d) → Keeps regions (F.unaryOf cells x a)
   unfolding F.unaryOf

@@ -1,11 +1,12 @@
 use mathlib.Core.Bool.{true}
-use mathlib.Core.Path.{_≡_, sym, _∙_}
+use mathlib.Core.Path.{_≡_, refl, sym, _∙_}
 use borrow.Author.Needs.{needs}
 use borrow.Author.Tests.{not-true, not-false}
-use Rattle.tables.specs.Outcome.{ok, _>>=_, _>>_, need, seen}
+use Rattle.tables.specs.Outcome.{ok, seen}
 use Rattle.operands.specs.Cells.{readOf, sourceOf, readOutcome}
 use Rattle.operators.specs.Operators.{comparisonKinds}
 use Rattle.machine.specs.Families.{comparisonOf}
+use Rattle.machine.proofs.Looked.{looked, no-first, no-second, both, no-kinds, kinds}
 use Rattle.machine.proofs.family.comparison.Statement.{statement}
 use Rattle.machine.proofs.family.comparison.Tie as tie
 
@@ -41,8 +42,8 @@ enum-told : tie.Need-enum-told
 enum-told c = search needs
 
 returns : tie.Need-returns
-unfolding comparisonOf _>>=_ _>>_ need
-returns c = rw (seen readOutcome (c .before .before .read-cell .ensures) (c .enum-told .given .1))
+unfolding comparisonOf
+returns c = looked (no-first (seen readOutcome (c .before .before .read-cell .ensures) (c .enum-told .given .1)))
 
 read-source-requires : tie.Need-read-source-requires
 read-source-requires c κs = entry (c .before) .pre .source
@@ -54,24 +55,27 @@ enum-told-2 : tie.Need-enum-told-2
 enum-told-2 c = search needs
 
 returns-2 : tie.Need-returns-2
-unfolding comparisonOf _>>=_ _>>_ need
-returns-2 c = rw (operand (c .before .before .before .before), seen readOutcome (c .before .before .read-source .ensures) (c .enum-told2 .given .1))
+unfolding comparisonOf
+returns-2 c = looked (no-second (operand (c .before .before .before .before)) (seen readOutcome (c .before .before .read-source .ensures) (c .enum-told2 .given .1)))
 
 comparison-kinds-requires : tie.Need-comparison-kinds-requires
 comparison-kinds-requires c κs = search needs
 
 returns-3 : tie.Need-returns-3
-unfolding comparisonOf _>>=_ _>>_ need
+unfolding comparisonOf
 returns-3 c =
     let s = c .before .before .before in
-    rw (operand (operand-of s), source s, sym (c .before .comparison-kinds .ensures) ∙ not-true _ (c .if1 .taken))
+    looked (both (operand (operand-of s)) (source s) (no-kinds _ (sym (c .before .comparison-kinds .ensures) ∙ not-true _ (c .if1 .taken))))
 
 comparison-result-requires : tie.Need-comparison-result-requires
 comparison-result-requires c κs = search needs
 
 returns-4 : tie.Need-returns-4
-unfolding comparisonOf _>>=_ _>>_ need
-returns-4 c = let k = c .before in let s = source-of k in rw (operand (operand-of s), source s, ruled k, c .comparison-result .ensures)
+unfolding comparisonOf
+returns-4 c =
+    let k = c .before in
+    let s = source-of k in
+    rw (c .comparison-result .ensures) (looked (both (operand (operand-of s)) (source s) (kinds (ruled k) refl)))
 
 pub comparison-spec : {M : Type 1} → statement M
 comparison-spec =

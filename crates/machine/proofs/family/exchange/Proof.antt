@@ -1,9 +1,18 @@
+use mathlib.Core.Path.{_≡_, refl}
 use borrow.Author.Needs.{needs}
-use Rattle.tables.specs.Outcome.{_>>=_, seen}
-use Rattle.operands.specs.Cells.{readOutcome}
+use Rattle.tables.specs.Outcome.{ok, seen}
+use Rattle.operands.specs.Cells.{readOf, readOutcome}
 use Rattle.machine.specs.Families.{exchangeOf}
+use Rattle.machine.proofs.Looked.{looked, no-first, no-second, both}
 use Rattle.machine.proofs.family.exchange.Statement.{statement}
 use Rattle.machine.proofs.family.exchange.Tie as tie
+
+-- ---- the place: the first cell was read
+
+operand : (d : tie.After-d) → let a = d .before .before .before .before .args in readOf (a .cells .now) (a .a .first) ≡ ok (d .d .given .0 .0)
+operand d = seen readOutcome (d .before .before .read-cell .ensures) (d .d .given .1)
+
+-- ---- the needs
 
 read-cell-requires : tie.Need-read-cell-requires
 read-cell-requires c κs = search needs
@@ -15,8 +24,8 @@ enum-told : tie.Need-enum-told
 enum-told c = search needs
 
 returns : tie.Need-returns
-unfolding exchangeOf _>>=_
-returns c = rw (seen readOutcome (c .before .before .read-cell .ensures) (c .enum-told .given .1))
+unfolding exchangeOf
+returns c = looked (no-first (seen readOutcome (c .before .before .read-cell .ensures) (c .enum-told .given .1)))
 
 read-cell-requires-2 : tie.Need-read-cell-requires-2
 read-cell-requires-2 c κs = search needs
@@ -28,12 +37,14 @@ enum-told-2 : tie.Need-enum-told-2
 enum-told-2 c = search needs
 
 returns-2 : tie.Need-returns-2
-unfolding exchangeOf _>>=_
-returns-2 c = rw (seen readOutcome (c .before .before .before .before .before .before .read-cell .ensures) (c .before .before .before .before .d .given .1), seen readOutcome (c .before .before .read-cell2 .ensures) (c .enum-told2 .given .1))
+unfolding exchangeOf
+returns-2 c = looked (no-second (operand (c .before .before .before .before)) (seen readOutcome (c .before .before .read-cell2 .ensures) (c .enum-told2 .given .1)))
 
 returns-3 : tie.Need-returns-3
-unfolding exchangeOf _>>=_
-returns-3 c = rw (seen readOutcome (c .before .before .before .before .before .before .before .read-cell .ensures) (c .before .before .before .before .before .d .given .1), seen readOutcome (c .before .before .before .read-cell2 .ensures) (c .before .e .given .1))
+unfolding exchangeOf
+returns-3 c =
+    let e = c .before in
+    looked (both (operand (e .before .before .before .before)) (seen readOutcome (e .before .before .read-cell2 .ensures) (e .e .given .1)) refl)
 
 pub exchange-spec : {M : Type 1} → statement M
 exchange-spec =

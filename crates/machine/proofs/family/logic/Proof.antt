@@ -1,11 +1,12 @@
 use mathlib.Core.Bool.{true}
-use mathlib.Core.Path.{_≡_, sym, _∙_}
+use mathlib.Core.Path.{_≡_, refl, sym, _∙_}
 use borrow.Author.Needs.{needs}
 use borrow.Author.Tests.{not-true, not-false}
-use Rattle.tables.specs.Outcome.{ok, _>>=_, _>>_, need, seen}
+use Rattle.tables.specs.Outcome.{ok, seen}
 use Rattle.operands.specs.Cells.{readOf, sourceOf, readOutcome}
 use Rattle.operators.specs.Operators.{logicKinds, shiftedOutcome}
-use Rattle.machine.specs.Families.{logicOf}
+use Rattle.machine.specs.Families.{combinedOf, logicOf}
+use Rattle.machine.proofs.Looked.{looked, no-first, no-second, both, no-kinds, kinds, no-result, result}
 use Rattle.machine.proofs.family.logic.Statement.{statement}
 use Rattle.machine.proofs.family.logic.Tie as tie
 
@@ -41,8 +42,8 @@ enum-told : tie.Need-enum-told
 enum-told c = search needs
 
 returns : tie.Need-returns
-unfolding logicOf _>>=_ _>>_ need
-returns c = rw (seen readOutcome (c .before .before .read-cell .ensures) (c .enum-told .given .1))
+unfolding logicOf combinedOf
+returns c = looked (no-first (seen readOutcome (c .before .before .read-cell .ensures) (c .enum-told .given .1)))
 
 read-source-requires : tie.Need-read-source-requires
 read-source-requires c κs = entry (c .before) .pre .source
@@ -54,17 +55,17 @@ enum-told-2 : tie.Need-enum-told-2
 enum-told-2 c = search needs
 
 returns-2 : tie.Need-returns-2
-unfolding logicOf _>>=_ _>>_ need
-returns-2 c = rw (operand (c .before .before .before .before), seen readOutcome (c .before .before .read-source .ensures) (c .enum-told2 .given .1))
+unfolding logicOf combinedOf
+returns-2 c = looked (no-second (operand (c .before .before .before .before)) (seen readOutcome (c .before .before .read-source .ensures) (c .enum-told2 .given .1)))
 
 logic-kinds-requires : tie.Need-logic-kinds-requires
 logic-kinds-requires c κs = search needs
 
 returns-3 : tie.Need-returns-3
-unfolding logicOf _>>=_ _>>_ need
+unfolding logicOf combinedOf
 returns-3 c =
     let s = c .before .before .before in
-    rw (operand (operand-of s), source s, sym (c .before .logic-kinds .ensures) ∙ not-true _ (c .if1 .taken))
+    looked (both (operand (operand-of s)) (source s) (no-kinds _ (sym (c .before .logic-kinds .ensures) ∙ not-true _ (c .if1 .taken))))
 
 logic-result-requires : tie.Need-logic-result-requires
 logic-result-requires c κs = search needs
@@ -76,19 +77,19 @@ enum-told-3 : tie.Need-enum-told-3
 enum-told-3 c = search needs
 
 returns-4 : tie.Need-returns-4
-unfolding logicOf _>>=_ _>>_ need
+unfolding logicOf combinedOf
 returns-4 c =
     let k = c .before .before .before in
     let s = source-of k in
-    rw (operand (operand-of s), source s, ruled k, seen shiftedOutcome (c .before .before .logic-result .ensures) (c .enum-told3 .given .1))
+    looked (both (operand (operand-of s)) (source s) (kinds (ruled k) (no-result _ (seen shiftedOutcome (c .before .before .logic-result .ensures) (c .enum-told3 .given .1)))))
 
 returns-5 : tie.Need-returns-5
-unfolding logicOf _>>=_ _>>_ need
+unfolding logicOf combinedOf
 returns-5 c =
     let w = c .before in
     let k = w .before .before .before in
     let s = source-of k in
-    rw (operand (operand-of s), source s, ruled k, seen shiftedOutcome (w .before .before .logic-result .ensures) (w .word .given .1))
+    looked (both (operand (operand-of s)) (source s) (kinds (ruled k) (result _ (seen shiftedOutcome (w .before .before .logic-result .ensures) (w .word .given .1)) refl)))
 
 pub logic-spec : {M : Type 1} → statement M
 logic-spec =

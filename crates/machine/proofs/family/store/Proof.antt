@@ -1,11 +1,12 @@
-use mathlib.Core.Path.{_≡_}
+use mathlib.Core.Path.{_≡_, sym}
 use borrow.Author.Needs.{needs}
-use Rattle.tables.specs.Outcome.{ok, _>>=_, seen}
+use Rattle.tables.specs.Outcome.{ok, seen}
 use Rattle.operands.specs.Cells.{sourceOf, offsetOf, readOutcome, offsetOutcome}
 use Rattle.operands.specs.Address.{indexedOf, indexedOutcome}
 use Rattle.operands.proofs.AddressLaws.{indexed-within}
 use Rattle.operands.proofs.Reaches.{in-cells}
 use Rattle.machine.specs.Families.{storeOf}
+use Rattle.machine.proofs.Looked.{looked, no-first, no-second, both, no-result, result}
 use Rattle.machine.proofs.family.store.Statement.{statement}
 use Rattle.machine.proofs.family.store.Tie as tie
 
@@ -42,8 +43,8 @@ enum-told : tie.Need-enum-told
 enum-told c = search needs
 
 returns : tie.Need-returns
-unfolding storeOf _>>=_
-returns c = rw (seen offsetOutcome (c .before .before .read-offset .ensures) (c .enum-told .given .1))
+unfolding storeOf
+returns c = looked (no-first (seen offsetOutcome (c .before .before .read-offset .ensures) (c .enum-told .given .1)))
 
 read-source-requires : tie.Need-read-source-requires
 read-source-requires c κs = entry (c .before) .pre .source
@@ -55,8 +56,8 @@ enum-told-2 : tie.Need-enum-told-2
 enum-told-2 c = search needs
 
 returns-2 : tie.Need-returns-2
-unfolding storeOf _>>=_
-returns-2 c = rw (offset (c .before .before .before .before), seen readOutcome (c .before .before .read-source .ensures) (c .enum-told2 .given .1))
+unfolding storeOf
+returns-2 c = looked (no-second (offset (c .before .before .before .before)) (seen readOutcome (c .before .before .read-source .ensures) (c .enum-told2 .given .1)))
 
 index-cell-requires : tie.Need-index-cell-requires
 index-cell-requires c κs = let pre = entry (offset-of (c .before)) .pre in (pre .region, pre .layout .laid)
@@ -68,10 +69,10 @@ enum-told-3 : tie.Need-enum-told-3
 enum-told-3 c = search needs
 
 returns-3 : tie.Need-returns-3
-unfolding storeOf _>>=_
+unfolding storeOf
 returns-3 c =
     let s = c .before .before .before .before in
-    rw (offset (offset-of s), source s, seen indexedOutcome (c .before .before .index-cell .ensures) (c .enum-told3 .given .1))
+    looked (both (offset (offset-of s)) (source s) (no-result _ (seen indexedOutcome (c .before .before .index-cell .ensures) (c .enum-told3 .given .1))))
 
 put-into-requires : tie.Need-put-into-requires
 put-into-requires c κs =
@@ -80,11 +81,11 @@ put-into-requires c κs =
     in-cells (s .pre .layout) (indexed-within (s .pre .layout .laid) (s .args .n .first) (i .i .given .0 .0) (s .pre .region) (reached (c .before)))
 
 returns-4 : tie.Need-returns-4
-unfolding storeOf _>>=_
+unfolding storeOf
 returns-4 c =
     let r = c .before .before in
     let s = source-of r in
-    rw (offset (offset-of s), source s, reached r) (c .put-into .ensures)
+    looked (both (offset (offset-of s)) (source s) (result _ (reached r) (sym (c .put-into .ensures))))
 
 pub store-spec : {M : Type 1} → statement M
 store-spec =
