@@ -75,7 +75,7 @@ int main(void)
     } while (found[0] == 1);
 
     /* the reply puts 5 into n[0], the return, and 7 into n[2] */
-    uint64_t memory[CONSOLE_CELL_WIDTH * CELLS], journal[CONSOLE_ENTRY_WIDTH * ENTRIES];
+    uint64_t memory[CONSOLE_CELL_WIDTH * CELLS] = {0}, journal[CONSOLE_ENTRY_WIDTH * ENTRIES] = {0};
     uint64_t position[CONSOLE_POSITION] = {0};
     const uint64_t reply[] = {0, 0, CONSOLE_KIND_INTEGER, 5, 1, 0, CONSOLE_KIND_INTEGER, 7};
     uint64_t opened = console_open(TABLES(call), SESSION, error);
