@@ -72,7 +72,7 @@ mod tests {
     fn no_words_panic() {
         rows::<6>().for_each(|words| assert_ne!(TypeError::of_words(words).to_string(), ""));
         rows::<7>().for_each(|words| assert_ne!(CallArgumentError::of_row(&words).to_string(), ""));
-        rows::<5>().for_each(|words| drop(ResolvedCallArgument::of_row(&words)));
+        rows::<5>().for_each(|words| assert_ne!(std::format!("{:?}", ResolvedCallArgument::of_row(&words)), ""));
         rows::<3>().for_each(|words| assert_eq!(UnresolvedCallArgument::of_row(words).row(), words));
         assert!(matches!(ResolvedCallArgument::of_row(&[]), ResolvedCallArgument::Unknown(_)));
     }
