@@ -16,7 +16,7 @@
 //! `docs/USING.md` of the repository has the buffers to lend, the orders of refusals and what is promised;
 //! `examples/step.rs` is a whole session.
 #![no_std]
-#![deny(missing_docs)]
+#![deny(missing_docs, unsafe_code)]
 
 #[cfg(any(test, feature = "std"))]
 extern crate std;
@@ -36,6 +36,7 @@ mod kind;
 mod operator;
 #[cfg(feature = "std")]
 mod program;
+#[allow(unsafe_code)]
 pub mod raw;
 mod refusal;
 mod resolve;

@@ -3,6 +3,17 @@ use core::fmt;
 
 /// A session on a program: its tables, memory, journal and position, kept together. While it lives nothing else can
 /// write them, and each call gets what the last one left: what the library's theorem about sessions asks for.
+///
+/// ```compile_fail,E0506
+/// # use mugwortlatch::{Refusal, Session, Tables};
+/// # let (mut memory, mut journal) = ([0; 2], [0; 3]);
+/// let mut session = Session::open(Tables::default(), &mut memory, &mut journal)?;
+/// memory[1] = 256; // a foreign writer, whom the compiler turns down
+/// session.forward(&[])?;
+/// # Ok::<(), Refusal>(())
+/// ```
+///
+/// A host that keeps a session for good lends it what lives as long: statics, or what `Vec::leak` and `Box::leak` give.
 #[derive(Debug)]
 pub struct Session<'a> {
     tables: Tables<'a>,
