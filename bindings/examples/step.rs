@@ -1,47 +1,56 @@
 //! A student's session: MOVE n[0] 7, then CALL f n[0] n[1], forward twice and back once.
 //! Run from this folder: cargo run --offline --example step
-use mugwortlatch::{back, check, forward, open, resolve, sizes, Kind, Refusal, ReplyRow, Tables};
+use mugwortlatch::{
+    check, resolve, sizes, Instruction, Kind, MemoryReference, Parameter, Program, Refusal, Region, Reply, Session,
+    Shape,
+};
 
+/// Names are numbers that you choose.
 const N: u64 = 1;
 const F: u64 = 7;
+const X: u64 = 5;
 
 fn main() -> Result<(), Refusal> {
-    let tables = Tables {
-        // n INTEGER[3]
-        regions: &[N, 1, 3],
-        // EXTERN f : INTEGER (5 : mut INTEGER)
-        externs: &[F, 1, 0, 1],
-        parameters: &[5, 1, 0, 1, 0],
-        nodes: &[],
-        // n[0] n[1]
-        arguments: &[1, N, 0, 1, N, 1],
-        // MOVE n[0] 7, CALL f n[0] n[1]
-        instructions: &[4, 0, N, 0, 0, 0, 0, 7, 0, 9, 0, F, 0, 2, 0, 3, 0, 0],
-    };
-    check(&tables)?;
+    // DECLARE n INTEGER[3]
+    // EXTERN f : INTEGER (x : mut INTEGER)
+    let n = |index| MemoryReference { name: N, index };
+    let mut program = Program::new();
+    program.region(Region { name: N, kind: Kind::Integer, length: 3 });
+    let x = Parameter { name: X, mutable: true, shape: Shape::Scalar, kind: Kind::Integer };
+    program.extern_routine(F, Some(Kind::Integer), &[x]);
 
-    let mut rows = [0; 2 * sizes::ERROR_ROW];
-    match resolve(&tables, 1, &mut rows) {
-        Ok(arguments) => arguments.for_each(|argument| println!("{argument:?}")),
-        Err(unresolved) => println!("{unresolved:?}"),
+    // MOVE n[0] 7
+    // CALL f n[0] n[1]: the return goes to n[0], and n[1] is x
+    program.instruction(Instruction::Move { destination: n(0), source: 7.into() });
+    let call = program.call(F, &[n(0).into(), n(1).into()]);
+    check(&program.tables())?;
+
+    // These fit every program; shorter ones do where you know how many cells and steps it has.
+    let (mut memory, mut journal) = ([0; sizes::MEMORY_WORDS], [0; sizes::JOURNAL_WORDS]);
+    let mut session = Session::open(program.tables(), &mut memory, &mut journal)?;
+    session.forward(&[])?;
+    show("moved", &session);
+
+    // What the routine f would be handed.
+    let mut rows = [0; sizes::RESOLVE_WORDS];
+    for argument in resolve(session.tables(), call, &mut rows)? {
+        println!("{argument:?}");
     }
 
-    let (mut memory, mut journal) = ([0; 3 * sizes::CELL], [0; 8 * sizes::JOURNAL_ENTRY]);
-    let start = open(&tables, &mut memory, &journal)?;
-    let moved = forward(&tables, &mut memory, &mut journal, start, &[])?;
-    println!("{moved:?} {memory:?}");
-
-    // An OCTET does not fit: refused, nothing changed.
-    let unfit = ReplyRow { argument: 1, offset: 0, kind: Kind::Octet, word: 9 };
-    match forward(&tables, &mut memory, &mut journal, moved, &unfit.words()) {
-        Ok(position) => println!("{position:?}"),
-        Err(refusal) => println!("{refusal}; to mend by {:?}", refusal.mender()),
+    // f's reply puts 9 into its argument 1, x. As an OCTET it does not fit: refused, nothing changed.
+    let unfit = Reply { argument: 1, offset: 0, kind: Kind::Octet, word: 9 };
+    if let Err(refusal) = session.forward(&[unfit.row()]) {
+        println!("{refusal} (for {} to mend)", refusal.mender());
     }
-
-    let reply = ReplyRow { kind: Kind::Integer, ..unfit };
-    let called = forward(&tables, &mut memory, &mut journal, moved, &reply.words())?;
-    println!("{called:?} {memory:?}");
-    let returned = back(&tables, &mut memory, &journal, called)?;
-    println!("{returned:?} {memory:?}");
+    let reply = Reply { kind: Kind::Integer, ..unfit };
+    session.forward(&[reply.row()])?;
+    show("called", &session);
+    session.back()?;
+    show("taken back", &session);
     Ok(())
+}
+
+fn show(what: &str, session: &Session) {
+    let cells = [0, 1, 2].map(|index| session.cell(MemoryReference { name: N, index }).expect("declared"));
+    println!("{what}: {} done; n: {}, {}, {}", session.position().done, cells[0], cells[1], cells[2]);
 }

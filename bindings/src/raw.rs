@@ -24,19 +24,27 @@ macro_rules! with_tables {
     };
 }
 
-/// `error` on 5.
+/// The words of rows, one row after another, as a table lends them.
+#[inline]
+pub fn flattened<const WIDTH: usize>(rows: &[[u64; WIDTH]]) -> &[u64] {
+    // Safety: arrays of words lie one after another without gaps, and all of them are borrowed.
+    unsafe { core::slice::from_raw_parts(rows.as_ptr().cast(), rows.len() * WIDTH) }
+}
+
+/// The type check. It writes `error` on 5: kind, row, spot, src spot, two codes.
 #[inline]
 pub fn check(tables: &Tables, error: &mut [u64; 6]) -> u64 {
     with_tables!(console_check, tables, error.as_mut_ptr())
 }
 
-/// `count` on 0, resolved rows, and on 8, error rows.
+/// The arguments of the CALL in that row. It writes `rows` and `count` on 0, resolved rows, and on 8, error rows.
 #[inline]
 pub fn resolve(tables: &Tables, row: u64, rows: &mut [u64], count: &mut [u64; 1]) -> u64 {
     with_tables!(console_resolve, tables, row, rows.as_mut_ptr(), rows.len(), count.as_mut_ptr())
 }
 
-/// `counts` on 0: names read, names written.
+/// The names that the CALL in that row reads and writes. It writes the lists and `counts` on 0: names read, names
+/// written.
 #[inline]
 pub fn access(tables: &Tables, row: u64, reads: &mut [u64], writes: &mut [u64], counts: &mut [u64; 2]) -> u64 {
     with_tables!(
@@ -51,7 +59,8 @@ pub fn access(tables: &Tables, row: u64, reads: &mut [u64], writes: &mut [u64], 
     )
 }
 
-/// On 0 the new `place`, and `found`: 1, name, index, or 0, 0, 0 at the end.
+/// The next reference of an expression. It writes on 0 the new `place`, and `found`: 1, name, index, or 0, 0, 0 at the
+/// end.
 #[inline]
 pub fn reference(nodes: &[u64], first: u64, node_count: u64, place: &mut [u64; 1], found: &mut [u64; 3]) -> u64 {
     let (place, found) = (place.as_mut_ptr(), found.as_mut_ptr());
@@ -59,7 +68,7 @@ pub fn reference(nodes: &[u64], first: u64, node_count: u64, place: &mut [u64; 1
     unsafe { foreign::console_reference(nodes.as_ptr(), nodes.len(), first, node_count, place, found) }
 }
 
-/// `position` on 0, `error` on 5.
+/// The cells zeroed, each with its declared kind. It writes `memory` and `position` on 0, `error` on 5.
 #[inline]
 pub fn open(
     tables: &Tables,
@@ -80,7 +89,7 @@ pub fn open(
     )
 }
 
-/// The new `position` on 0.
+/// One step. It writes `memory`, `journal` and the new `position` on 0.
 #[inline]
 pub fn forward(
     tables: &Tables,
@@ -102,7 +111,7 @@ pub fn forward(
     )
 }
 
-/// The new `position` on 0.
+/// The last step taken back. It writes `memory` and the new `position` on 0.
 #[inline]
 pub fn back(tables: &Tables, memory: &mut [u64], journal: &[u64], position: &mut [u64; 2]) -> u64 {
     with_tables!(

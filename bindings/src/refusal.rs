@@ -1,154 +1,163 @@
 use crate::TypeError;
-use std::fmt;
+use core::fmt;
 
-/// Why a call turned its input down: 01's "Turned down, by cause", in its order.
-#[derive(Clone, Copy, Debug, PartialEq, Eq)]
-pub enum Refusal {
-    TableShape,
-    Word,
-    DuplicateName,
-    Buffer,
-    TypeError(TypeError),
-    ExternNotFound,
-    ArgumentCount,
-    ArgumentErrors,
-    OtherInstruction,
-    TooManyCells,
-    End,
-    NothingToTakeBack,
-    JournalFull,
-    Index,
-    ZeroDivisor,
-    NegativeShift,
-    UnfitReply,
-    NoRule,
-    Unreadable,
+/// The refusals: number, case, cause. 5 stands apart, as it carries the type error.
+macro_rules! refusals {
+    ($($number:literal $case:ident $cause:literal,)*) => {
+        /// Why a call turned its input down. It then wrote nothing, but [`resolve`](crate::resolve) its error rows.
+        #[derive(Clone, Copy, Debug, PartialEq, Eq)]
+        #[non_exhaustive]
+        pub enum Refusal {
+            $(
+                #[doc = concat!($number, ": ", $cause, ".")]
+                $case,
+            )*
+            /// 5: the program has a type error.
+            TypeError(TypeError),
+            /// A number that this version has no case for.
+            Unknown(u64),
+        }
+
+        impl Refusal {
+            /// Its number.
+            pub const fn number(self) -> u64 {
+                match self {
+                    $(Refusal::$case => $number,)*
+                    Refusal::TypeError(_) => 5,
+                    Refusal::Unknown(number) => number,
+                }
+            }
+
+            /// The cause in plain words.
+            pub const fn cause(self) -> &'static str {
+                match self {
+                    $(Refusal::$case => $cause,)*
+                    Refusal::TypeError(_) => "the program has a type error",
+                    Refusal::Unknown(_) => "the cause is unknown to this version",
+                }
+            }
+
+            /// The refusal of a call that has no type error.
+            pub(crate) const fn of_number(number: u64) -> Refusal {
+                match number {
+                    $($number => Refusal::$case,)*
+                    _ => Refusal::Unknown(number),
+                }
+            }
+        }
+    };
 }
 
-/// Who can mend it.
+refusals! {
+    1 TableShape "a table is not whole rows, or has more rows than its limit",
+    2 WordNotAllowed "a word is not allowed where it stands, a range lies outside its table, or the chosen row is absent \
+        or of another family",
+    3 NameTwice "two regions or two externs have one name",
+    4 BufferSize "a lent buffer is too short, or the journal is not whole entries or too long",
+    6 ExternNotFound "a CALL names an extern that is not declared",
+    7 ArgumentCount "a CALL has more or fewer arguments than its extern takes",
+    8 ArgumentErrors "arguments of a CALL do not fit their parameters",
+    9 OtherInstruction "an instruction is none that the console steps",
+    10 TooManyCells "the regions have more than 4,096 cells",
+    11 AtEnd "the program is at its end",
+    12 NothingToTakeBack "there is no step to take back",
+    13 JournalFull "the journal is full: the step's changes and one entry more do not fit",
+    14 IndexPastLength "an index is negative, or at or past the length of its region",
+    15 ZeroDivisor "an INTEGER is divided by zero",
+    16 NegativeShiftCount "a shift count is negative",
+    17 UnfitReply "the reply does not fit the CALL, or there is one and the row is no CALL",
+    18 NoRule "a cell that is read has no rule: its kind or its word is foreign; or a name is not declared",
+    19 ForeignPosition "the position lies past its tables, or the journal cannot be read",
+}
+
+/// Who can mend what was turned down.
 #[derive(Clone, Copy, Debug, PartialEq, Eq)]
+#[non_exhaustive]
 pub enum Mender {
+    /// What made the tables and lent the buffers.
     Loader,
+    /// Who wrote the program.
     Author,
+    /// Who presses the keys.
     Student,
+    /// The values that the program came to.
     RunningProgram,
+    /// What made a CALL's reply.
     ExternRoutine,
+    /// Whatever wrote memory, journal or position other than the library.
     ForeignWriter,
+    /// Of a refusal that this version has no case for.
+    Unknown,
 }
 
 impl Refusal {
-    pub fn number(self) -> u64 {
-        match self {
-            Refusal::TableShape => 1,
-            Refusal::Word => 2,
-            Refusal::DuplicateName => 3,
-            Refusal::Buffer => 4,
-            Refusal::TypeError(_) => 5,
-            Refusal::ExternNotFound => 6,
-            Refusal::ArgumentCount => 7,
-            Refusal::ArgumentErrors => 8,
-            Refusal::OtherInstruction => 9,
-            Refusal::TooManyCells => 10,
-            Refusal::End => 11,
-            Refusal::NothingToTakeBack => 12,
-            Refusal::JournalFull => 13,
-            Refusal::Index => 14,
-            Refusal::ZeroDivisor => 15,
-            Refusal::NegativeShift => 16,
-            Refusal::UnfitReply => 17,
-            Refusal::NoRule => 18,
-            Refusal::Unreadable => 19,
-        }
-    }
-
-    /// The cause in plain words.
-    pub fn cause(self) -> &'static str {
-        match self {
-            Refusal::TableShape => "a table is not whole rows, or over its limit",
-            Refusal::Word => {
-                "a word is not allowed, a range is outside its table, or the chosen row is absent or of the wrong family"
-            }
-            Refusal::DuplicateName => "two regions or two externs have one name",
-            Refusal::Buffer => "a lent buffer is too short, or the journal is not whole entries or too long",
-            Refusal::TypeError(_) => "the program has a type error",
-            Refusal::ExternNotFound => "a CALL names an extern that is not declared",
-            Refusal::ArgumentCount => "a CALL has another number of arguments than its extern takes",
-            Refusal::ArgumentErrors => "a CALL's arguments do not fit its extern's parameters",
-            Refusal::OtherInstruction => "an instruction is none that the console steps",
-            Refusal::TooManyCells => "the regions have over 4,096 cells",
-            Refusal::End => "the program is at its end",
-            Refusal::NothingToTakeBack => "there is nothing to take back",
-            Refusal::JournalFull => "the journal is full: the step's changes and one more entry exceed those left",
-            Refusal::Index => "an index is at or past its region's length, or negative",
-            Refusal::ZeroDivisor => "an INTEGER is divided by zero",
-            Refusal::NegativeShift => "a shift count is negative",
-            Refusal::UnfitReply => "the reply does not fit the CALL, or is not empty outside a CALL",
-            Refusal::NoRule => "a cell holds what no rule takes, or a name is not declared",
-            Refusal::Unreadable => "the position is past its tables, or the journal is unreadable",
-        }
-    }
-
-    pub fn mender(self) -> Mender {
+    /// Who can mend it.
+    pub const fn mender(self) -> Mender {
         match self.number() {
             1..=4 => Mender::Loader,
             5..=10 => Mender::Author,
             11..=13 => Mender::Student,
             14..=16 => Mender::RunningProgram,
             17 => Mender::ExternRoutine,
-            _ => Mender::ForeignWriter,
+            18..=19 => Mender::ForeignWriter,
+            _ => Mender::Unknown,
         }
     }
 
-    /// The refusal of a number that the library returned, with the six words of its type error.
-    pub(crate) fn returned(number: u64, error: &[u64; 6]) -> Refusal {
+    /// The refusal of a call that writes the six words of a type error on 5.
+    pub(crate) const fn with_error(number: u64, error: [u64; 6]) -> Refusal {
         match number {
-            1 => Refusal::TableShape,
-            2 => Refusal::Word,
-            3 => Refusal::DuplicateName,
-            4 => Refusal::Buffer,
-            5 => Refusal::TypeError(TypeError::written(error)),
-            6 => Refusal::ExternNotFound,
-            7 => Refusal::ArgumentCount,
-            8 => Refusal::ArgumentErrors,
-            9 => Refusal::OtherInstruction,
-            10 => Refusal::TooManyCells,
-            11 => Refusal::End,
-            12 => Refusal::NothingToTakeBack,
-            13 => Refusal::JournalFull,
-            14 => Refusal::Index,
-            15 => Refusal::ZeroDivisor,
-            16 => Refusal::NegativeShift,
-            17 => Refusal::UnfitReply,
-            18 => Refusal::NoRule,
-            19 => Refusal::Unreadable,
-            _ => unreachable!("the library returns 0 to 19"),
-        }
-    }
-
-    /// The same, of a call that has no type error.
-    pub(crate) fn plain(number: u64) -> Refusal {
-        match number {
-            5 => unreachable!("5 comes from check and open alone"),
-            _ => Refusal::returned(number, &[0; 6]),
+            5 => Refusal::TypeError(TypeError::of_words(error)),
+            _ => Refusal::of_number(number),
         }
     }
 }
 
 impl fmt::Display for Refusal {
     fn fmt(&self, f: &mut fmt::Formatter<'_>) -> fmt::Result {
-        write!(f, "refused with {}: {}", self.number(), self.cause())
+        write!(f, "refused {}: {}", self.number(), self.cause())?;
+        match self {
+            Refusal::TypeError(error) => write!(f, "; {error}"),
+            _ => Ok(()),
+        }
     }
 }
 
-impl std::error::Error for Refusal {}
+impl fmt::Display for Mender {
+    fn fmt(&self, f: &mut fmt::Formatter<'_>) -> fmt::Result {
+        f.write_str(match self {
+            Mender::Loader => "the loader",
+            Mender::Author => "the program's author",
+            Mender::Student => "the student",
+            Mender::RunningProgram => "the running program",
+            Mender::ExternRoutine => "the extern routine",
+            Mender::ForeignWriter => "the foreign writer",
+            Mender::Unknown => "unknown",
+        })
+    }
+}
 
 #[cfg(test)]
 mod tests {
     use super::Refusal;
+    use std::format;
+
+    const PAGE: &str = include_str!("../../docs/REFUSALS.md");
 
     #[test]
     fn each_number_is_its_own() {
-        let undefined = [1, 0, 1, 0, 8, 8];
-        (1..=19).for_each(|number| assert_eq!(Refusal::returned(number, &undefined).number(), number));
+        (0..100).for_each(|number| assert_eq!(Refusal::with_error(number, [0; 6]).number(), number));
+        (0..100).for_each(|number| assert_eq!(Refusal::of_number(number).number(), number));
+    }
+
+    /// Causes and menders in the words of the page of refusals.
+    #[test]
+    fn words_of_the_page() {
+        for number in 1..=19 {
+            let refusal = Refusal::with_error(number, [0; 6]);
+            let (cause, mender) = (refusal.cause(), refusal.mender());
+            let lines = format!("## {number}\n\n- Cause: {cause}.\n- Mended by: {mender}.\n");
+            assert!(PAGE.contains(&lines), "{lines}");
+        }
     }
 }

@@ -1,36 +1,50 @@
-/// The six tables of a program, lent. Rows and words are document 01's, "Tables, in 64-bit words".
-#[derive(Clone, Copy, Debug, Default, PartialEq)]
+use crate::{sizes, MemoryReference};
+
+/// The six tables of a program, lent: the rows of each, one after another. A row's words are those of `row()`; an array
+/// of rows is lent by [`flattened`](crate::flattened).
+///
+/// ```
+/// use mugwortlatch::{check, flattened, Instruction, Kind, MemoryReference, Region, Tables};
+///
+/// let n = MemoryReference { name: 1, index: 0 };
+/// let regions = [Region { name: 1, kind: Kind::Integer, length: 3 }.row()];
+/// let instructions = [
+///     Instruction::Move { destination: n, source: 7.into() }.row(),
+///     Instruction::Nop.row(),
+/// ];
+/// let tables =
+///     Tables { regions: flattened(&regions), instructions: flattened(&instructions), ..Tables::default() };
+/// assert_eq!(check(&tables), Ok(()));
+/// ```
+#[derive(Clone, Copy, Debug, Default, PartialEq, Eq)]
 pub struct Tables<'a> {
+    /// Rows of [`Region`](crate::Region).
     pub regions: &'a [u64],
+    /// Rows of [`Extern`](crate::Extern).
     pub externs: &'a [u64],
+    /// Rows of [`Parameter`](crate::Parameter).
     pub parameters: &'a [u64],
+    /// Rows of [`Node`](crate::Node).
     pub nodes: &'a [u64],
+    /// Rows of [`UnresolvedCallArgument`](crate::UnresolvedCallArgument).
     pub arguments: &'a [u64],
+    /// Rows of [`Instruction`](crate::Instruction).
     pub instructions: &'a [u64],
 }
 
-pub mod sizes {
-    /// Words in a row.
-    pub const REGION: usize = 3;
-    pub const EXTERN: usize = 4;
-    pub const PARAMETER: usize = 5;
-    pub const NODE: usize = 3;
-    pub const ARGUMENT: usize = 3;
-    pub const INSTRUCTION: usize = 9;
-    pub const CELL: usize = 2;
-    pub const JOURNAL_ENTRY: usize = 3;
-    pub const REPLY_ROW: usize = 4;
-    pub const RESOLVED_ROW: usize = 5;
-    pub const ERROR_ROW: usize = 7;
-
-    /// Most rows.
-    pub const REGIONS: usize = 64;
-    pub const EXTERNS: usize = 32;
-    pub const PARAMETERS: usize = 256;
-    pub const NODES: usize = 2_048;
-    pub const ARGUMENTS: usize = 1_024;
-    pub const INSTRUCTIONS: usize = 512;
-    pub const CELLS: usize = 4_096;
-    pub const JOURNAL_ENTRIES: usize = 2_048;
-    pub const REPLY_ROWS: usize = 64;
+impl Tables<'_> {
+    /// The number of a reference's cell in the memory, where regions lie in table order; none where the name is not
+    /// declared or the index is past its region.
+    pub fn cell_of(&self, reference: MemoryReference) -> Option<usize> {
+        let mut before: u64 = 0;
+        for row in self.regions.chunks_exact(sizes::REGION_WIDTH) {
+            let (name, length) = (row[0], row[2]);
+            if name == reference.name {
+                let index = Some(reference.index).filter(|index| *index < length)?;
+                return usize::try_from(before.checked_add(index)?).ok();
+            }
+            before = before.checked_add(length)?;
+        }
+        None
+    }
 }

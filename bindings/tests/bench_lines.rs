@@ -2,107 +2,139 @@
 mod bench;
 
 use bench::*;
-use mugwortlatch::{check, Code, Kind, Position, Refusal, Spot, Tables, TypeError, TypeErrorKind};
+use mugwortlatch::{
+    check, flattened, BinaryOperator, Code, FrameOperator, Instruction, Node, Refusal, Source, Spot, Tables, TypeError,
+    TypeErrorKind,
+};
 
 fn type_error(row: bench::Row) -> TypeError {
-    match check(&bench(&row)) {
+    error_of(check(&bench(&[row])))
+}
+
+fn error_of(answer: Result<(), Refusal>) -> TypeError {
+    match answer {
         Err(Refusal::TypeError(error)) => error,
         other => panic!("{other:?}"),
     }
 }
 
+/// The error's kind, spot and src spot; all bench lines fail in row 0.
+fn told(error: TypeError) -> (TypeErrorKind, Spot, Option<Spot>) {
+    assert_eq!(error.row, 0);
+    (error.kind, error.spot, error.src_spot)
+}
+
 #[test]
 fn empty_program_passes_and_ends() {
     assert_eq!(check(&bench(&[])), Ok(()));
-    let mut session = Session::open(bench(&[]), 4).unwrap();
-    assert_eq!(session.forward(&[]), Err(Refusal::End));
+    assert_eq!(session(bench(&[]), 4, |session| session.forward(&[])), Ok(Err(Refusal::AtEnd)));
 }
 
 #[test]
 fn add_to_a_bit() {
-    let error = type_error(add(A, 0, real(1.5)));
-    let kind = TypeErrorKind::DataType { destination: Code::Kind(Kind::Bit), source: Code::RealLiteral };
-    assert_eq!(error, TypeError { kind, row: 0, spot: Spot::First, source_spot: Some(Spot::Source) });
-    let error = type_error(add(A, 0, integer(1)));
-    let kind = TypeErrorKind::Operand { found: Code::Kind(Kind::Bit), required: Code::RealOrIntegral };
-    assert_eq!(error, TypeError { kind, row: 0, spot: Spot::First, source_spot: None });
+    let error = type_error(add(at(A, 0), 1.5));
+    let kind = TypeErrorKind::DataType { dst: Code::Bit, src: Code::RealLiteral };
+    assert_eq!(told(error), (kind, Spot::First, Some(Spot::Source)));
+    assert_eq!(error.to_string(), "type error 2 in row 0: the first operand is BIT, the source is a real literal");
+    let error = type_error(add(at(A, 0), 1));
+    let kind = TypeErrorKind::Operand { found: Code::Bit, required: Code::RealOrIntegral };
+    assert_eq!(told(error), (kind, Spot::First, None));
+    let words = "type error 4 in row 0: the first operand is BIT, where REAL or INTEGER is required";
+    assert_eq!(error.to_string(), words);
+    let refused = Refusal::TypeError(error).to_string();
+    assert_eq!(refused, format!("refused 5: the program has a type error; {words}"));
 }
 
 #[test]
 fn store_of_an_undeclared_source_names_the_offset() {
-    let error = type_error(store(N, [N, 0], reference(Q, 0)));
-    assert_eq!(error, TypeError { kind: TypeErrorKind::Undefined, row: 0, spot: Spot::Second, source_spot: None });
+    let row = Instruction::Store { destination: N, offset: at(N, 0), source: Source::Reference(at(Q, 0)) }.row();
+    let error = type_error(row);
+    assert_eq!(told(error), (TypeErrorKind::Undefined, Spot::Second, None));
+    assert_eq!(error.to_string(), "type error 1 in row 0: the second operand is not declared");
 }
 
 #[test]
 fn move_keeps_the_low_bits() {
-    let rows = mov(O, 0, integer(300));
-    let mut session = Session::open(bench(&rows), 4).unwrap();
-    session.steps(1);
-    assert_eq!(session.word(O_CELL), 44);
+    let left = session(bench(&[mov(at(O, 0), 300)]), 4, |session| {
+        steps(session, 1);
+        session.cell(at(O, 0)).unwrap().to_string()
+    });
+    assert_eq!(left.unwrap(), "OCTET 44");
 }
 
 #[test]
 fn division_truncates() {
-    let rows = [mov(N, 0, integer(-7)), divide(N, 0, integer(2))].concat();
-    let mut session = Session::open(bench(&rows), 8).unwrap();
-    session.steps(2);
-    assert_eq!(session.word(N_CELL) as i64, -3);
+    let left = session(bench(&[mov(at(N, 0), -7), divide(at(N, 0), 2)]), 8, |session| {
+        steps(session, 2);
+        session.cell(at(N, 0)).unwrap().to_string()
+    });
+    assert_eq!(left.unwrap(), "INTEGER -3");
 }
 
 #[test]
 fn shifts_of_an_octet() {
     let shifted = |operator, count| {
-        let rows = [mov(O, 0, integer(128)), logic(operator, O, 0, integer(count))].concat();
-        let mut session = Session::open(bench(&rows), 8).unwrap();
-        session.steps(1);
-        session.forward(&[]).map(|_| session.word(O_CELL))
+        session(bench(&[mov(at(O, 0), 128), logic(operator, at(O, 0), count)]), 8, |session| {
+            steps(session, 1);
+            session.forward(&[]).map(|_| word(session, at(O, 0)))
+        })
+        .unwrap()
     };
-    assert_eq!(shifted(ASHR, 1), Ok(192));
-    assert_eq!(shifted(SHL, 8), Ok(0));
-    assert_eq!(shifted(SHL, -1), Err(Refusal::NegativeShift));
+    assert_eq!(shifted(BinaryOperator::Ashr, 1), Ok(192));
+    assert_eq!(shifted(BinaryOperator::Shl, 8), Ok(0));
+    assert_eq!(shifted(BinaryOperator::Shl, -1), Err(Refusal::NegativeShiftCount));
 }
 
 #[test]
 fn imaginary_parts() {
+    let row = Instruction::Frame { operator: FrameOperator::SetFrequency, first_node: 0, node_count: 1 }.row();
     let verdict = |imaginary| {
-        let (nodes, rows) = ([3, 0, imaginary], frame(0, 1));
-        check(&Tables { nodes: &nodes, ..bench(&rows) })
+        let nodes = [Node::Number(0.0, f64::from_bits(imaginary)).row()];
+        check(&Tables { nodes: flattened(&nodes), ..bench(&[row]) })
     };
     assert_eq!(verdict(0x3CB0_0000_0000_0000), Ok(()));
-    let kind = TypeErrorKind::RealRequired { found: Code::Imaginary };
-    let error = TypeError { kind, row: 0, spot: Spot::Node(0), source_spot: None };
-    assert_eq!(verdict(0x3CB0_0000_0000_0001), Err(Refusal::TypeError(error)));
+    let error = error_of(verdict(0x3CB0_0000_0000_0001));
+    assert_eq!(told(error), (TypeErrorKind::RealRequired { found: Code::Imaginary }, Spot::Node(0), None));
+    let words = "node 0 of the expression is an imaginary number, where a real value is required";
+    assert_eq!(error.to_string(), format!("type error 3 in row 0: {words}"));
 }
 
 #[test]
 fn load_by_an_index() {
     let loaded = |index| {
-        let rows = [mov(N, 0, integer(index)), load(R, 0, R, [N, 0])].concat();
-        let mut session = Session::open(bench(&rows), 8).unwrap();
-        session.steps(1);
-        session.forward(&[]).map(|position| position.done)
+        let load = Instruction::Load { destination: at(R, 0), source: R, offset: at(N, 0) }.row();
+        session(bench(&[mov(at(N, 0), index), load]), 8, |session| {
+            steps(session, 1);
+            session.forward(&[]).map(|position| position.done)
+        })
+        .unwrap()
     };
     assert_eq!(loaded(1), Ok(2));
-    assert_eq!(loaded(2), Err(Refusal::Index));
+    assert_eq!(loaded(2), Err(Refusal::IndexPastLength));
 }
 
 #[test]
 fn exchange_with_itself() {
-    let rows = exchange([N, 0], [N, 0]);
-    let mut session = Session::open(bench(&rows), 4).unwrap();
-    let before = session.memory.clone();
-    assert_eq!(session.forward(&[]), Ok(Position { done: 1, used: 3 }));
-    assert_eq!(session.memory, before);
+    let row = Instruction::Exchange { left: at(N, 0), right: at(N, 0) }.row();
+    let done = session(bench(&[row]), 4, |session| {
+        let before = session.memory().to_vec();
+        steps(session, 1);
+        assert_eq!(session.memory(), before);
+        position(session)
+    });
+    assert_eq!(done, Ok((1, 3)));
 }
 
 #[test]
 fn journal_of_two() {
-    let rows = [mov(N, 0, integer(1)), mov(N, 0, integer(2))].concat();
-    let mut session = Session::open(bench(&rows), 2).unwrap();
-    session.steps(1);
-    assert_eq!(session.forward(&[]), Err(Refusal::JournalFull));
-    assert_eq!(session.back(), Ok(Position::default()));
-    session.steps(1);
-    assert_eq!(session.word(N_CELL), 1);
+    let rows = [mov(at(N, 0), 1), mov(at(N, 0), 2)];
+    let left = session(bench(&rows), 2, |session| {
+        steps(session, 1);
+        assert_eq!(session.forward(&[]), Err(Refusal::JournalFull));
+        assert!(session.back().is_ok());
+        assert_eq!(position(session), (0, 0));
+        steps(session, 1);
+        word(session, at(N, 0))
+    });
+    assert_eq!(left, Ok(1));
 }

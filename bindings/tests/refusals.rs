@@ -2,110 +2,142 @@
 mod bench;
 
 use bench::*;
-use mugwortlatch::{back, check, forward, open, sizes, Kind, Mender, Position, Refusal, ReplyRow, Tables};
+use mugwortlatch::{
+    check, flattened, raw, sizes, BinaryOperator, Extern, Instruction, Kind, Mender, Parameter, Refusal, Reply,
+    Session, Shape, Tables, UnresolvedCallArgument,
+};
 
 fn opened(tables: Tables) -> u64 {
-    number(Session::open(tables, 4).map(|_| ()))
+    number(session(tables, 4, |_| ()))
 }
 
 fn number<T>(answer: Result<T, Refusal>) -> u64 {
     answer.err().map_or(0, Refusal::number)
 }
 
-/// The answer of a forward after so many good ones; a refused one leaves everything as it was.
-fn forwarded(rows: &[u64], good: usize, reply: &[u64]) -> u64 {
-    let mut session = Session::open(bench(rows), 16).unwrap();
-    session.steps(good);
-    let before = (session.memory.clone(), session.journal.clone(), session.position);
+/// The answer of a forward; a refused one leaves everything as it was.
+fn tried(session: &mut Session, reply: &[[u64; sizes::REPLY_WIDTH]]) -> u64 {
+    let kept = |session: &Session| (session.memory().to_vec(), session.journal().to_vec(), session.position());
+    let before = kept(session);
     let answer = number(session.forward(reply));
     if answer != 0 {
-        assert_eq!(before, (session.memory, session.journal, session.position));
+        assert_eq!(before, kept(session));
     }
     answer
 }
 
+fn forwarded(row: Row, reply: &[[u64; sizes::REPLY_WIDTH]]) -> u64 {
+    session(bench(&[row]), 16, |session| tried(session, reply)).unwrap()
+}
+
+/// An extern of one mutable INTEGER parameter of that shape, no return.
+fn taking(shape: Shape) -> ([[u64; 4]; 1], [[u64; 5]; 1]) {
+    let parameter = Parameter { name: 5, mutable: true, shape, kind: Kind::Integer };
+    ([Extern { name: 20, return_kind: None, first_parameter: 0, parameter_count: 1 }.row()], [parameter.row()])
+}
+
 #[test]
 fn loader() {
-    assert_eq!(opened(Tables { regions: &REGIONS[1..], ..Tables::default() }), 1);
-    assert_eq!(opened(bench(&[0; sizes::INSTRUCTION * (sizes::INSTRUCTIONS + 1)])), 1);
-    assert_eq!(opened(Tables { regions: &[A, 4, 1], ..Tables::default() }), 2);
-    assert_eq!(opened(Tables { regions: &[A, 0, 1, A, 1, 1], ..Tables::default() }), 3);
     let tables = bench(&[]);
-    assert_eq!(open(&tables, &mut [0; CELLS * 2 - 1], &[]), Err(Refusal::Buffer));
-    assert_eq!(open(&tables, &mut [0; CELLS * 2], &[0; 2]), Err(Refusal::Buffer));
-    let long = vec![0; (sizes::JOURNAL_ENTRIES + 1) * sizes::JOURNAL_ENTRY];
-    assert_eq!(open(&tables, &mut [0; CELLS * 2], &long), Err(Refusal::Buffer));
+    assert_eq!(opened(Tables { regions: &tables.regions[1..], ..tables }), 1);
+    assert_eq!(opened(bench(&[Instruction::Nop.row(); sizes::INSTRUCTION_LIMIT + 1])), 1);
+    assert_eq!(opened(Tables { regions: &[A, 4, 1], ..tables }), 2);
+    assert_eq!(opened(Tables { regions: &[A, 0, 1, A, 1, 1], ..tables }), 3);
+    let open = |memory: usize, journal: usize| {
+        let (mut memory, mut journal) = (vec![0; memory], vec![0; journal]);
+        number(Session::open(tables, &mut memory, &mut journal))
+    };
+    assert_eq!(open(CELLS * sizes::CELL_WIDTH - 1, 0), 4);
+    assert_eq!(open(CELLS * sizes::CELL_WIDTH, 2), 4);
+    assert_eq!(open(CELLS * sizes::CELL_WIDTH, sizes::JOURNAL_WORDS + sizes::ENTRY_WIDTH), 4);
+    assert_eq!(open(sizes::MEMORY_WORDS, sizes::JOURNAL_WORDS), 0);
 }
 
 #[test]
 fn author() {
-    assert_eq!(opened(bench(&add(A, 0, integer(1)))), 5);
-    assert_eq!(opened(bench(&call(Q, 0, 0))), 6);
-    let externs = [20, 4, 0, 1];
-    let with = |parameter: &[u64], arguments: &[u64], row: &[u64]| {
-        opened(Tables { externs: &externs, parameters: parameter, arguments, ..bench(row) })
+    assert_eq!(opened(bench(&[add(at(A, 0), 1)])), 5);
+    assert_eq!(opened(bench(&[call(Q, 0, 0)])), 6);
+    let (externs, parameters) = taking(Shape::Scalar);
+    let with = |arguments: &[[u64; 3]]| {
+        opened(Tables {
+            externs: flattened(&externs),
+            parameters: flattened(&parameters),
+            arguments: flattened(arguments),
+            ..bench(&[call(20, 0, arguments.len() as u64)])
+        })
     };
-    assert_eq!(with(&[5, 1, 0, 1, 0], &[], &call(20, 0, 0)), 7);
-    assert_eq!(with(&[5, 1, 0, 1, 0], &[1, R, 0], &call(20, 0, 1)), 8);
-    assert_eq!(with(&[5, 1, 0, 1, 0], &[1, N, 0], &call(20, 0, 1)), 0);
-    assert_eq!(opened(bench(&OTHER)), 9);
-    assert_eq!(check(&bench(&OTHER)), Ok(()));
+    assert_eq!(with(&[]), 7);
+    assert_eq!(with(&[UnresolvedCallArgument::Reference(R, 0).row()]), 8);
+    assert_eq!(with(&[UnresolvedCallArgument::Reference(N, 0).row()]), 0);
+    assert_eq!(opened(bench(&[Instruction::AnyOther.row()])), 9);
+    assert_eq!(check(&bench(&[Instruction::AnyOther.row()])), Ok(()));
     assert_eq!(opened(Tables { regions: &[A, 0, 4_097], ..Tables::default() }), 10);
 }
 
 #[test]
 fn student() {
-    assert_eq!(forwarded(&NOP, 1, &[]), 11);
-    let mut session = Session::open(bench(&NOP), 4).unwrap();
-    assert_eq!(number(session.back()), 12);
-    let mut session = Session::open(bench(&NOP), 0).unwrap();
-    assert_eq!(number(session.forward(&[])), 13);
+    let nop = [Instruction::Nop.row()];
+    let at_the_end = session(bench(&nop), 16, |session| {
+        steps(session, 1);
+        tried(session, &[])
+    });
+    assert_eq!(at_the_end, Ok(11));
+    assert_eq!(session(bench(&nop), 4, |session| number(session.back())), Ok(12));
+    assert_eq!(session(bench(&nop), 0, |session| tried(session, &[])), Ok(13));
 }
 
 #[test]
 fn running_program() {
-    assert_eq!(forwarded(&mov(N, 3, integer(1)), 0, &[]), 14);
-    assert_eq!(forwarded(&divide(N, 0, integer(0)), 0, &[]), 15);
-    assert_eq!(forwarded(&logic(SHL, N, 0, integer(-1)), 0, &[]), 16);
+    assert_eq!(forwarded(mov(at(N, 3), 1), &[]), 14);
+    assert_eq!(forwarded(divide(at(N, 0), 0), &[]), 15);
+    assert_eq!(forwarded(logic(BinaryOperator::Shl, at(N, 0), -1), &[]), 16);
 }
 
 #[test]
 fn extern_routine() {
-    assert_eq!(forwarded(&NOP, 0, &[0; 4]), 17);
+    assert_eq!(forwarded(Instruction::Nop.row(), &[[0; 4]]), 17);
+    let (externs, parameters) = taking(Shape::VariableVector);
+    let arguments = UnresolvedCallArgument::Identifier(N).row();
+    let rows = [call(20, 0, 1)];
     let tables = Tables {
-        externs: &[20, 4, 0, 1],
-        parameters: &[5, 1, 2, 1, 0],
-        arguments: &[0, N, 0],
-        ..bench(&[9, 0, 20, 0, 1, 0, 3, 0, 0])
+        externs: flattened(&externs),
+        parameters: flattened(&parameters),
+        arguments: &arguments,
+        ..bench(&rows)
     };
-    let reply = |offset, kind| ReplyRow { argument: 0, offset, kind, word: 9 }.words();
-    let mut session = Session::open(tables, 4).unwrap();
-    assert_eq!(number(session.forward(&reply(3, Kind::Integer))), 17);
-    assert_eq!(number(session.forward(&reply(2, Kind::Octet))), 17);
-    assert_eq!(number(session.forward(&reply(2, Kind::Integer)[1..])), 17);
-    assert_eq!(session.forward(&reply(2, Kind::Integer)), Ok(Position { done: 1, used: 2 }));
-    assert_eq!(session.word(N_CELL + 2), 9);
-    assert_eq!(session.back(), Ok(Position::default()));
-    assert_eq!(session.word(N_CELL + 2), 0);
+    let reply = |offset, kind| Reply { argument: 0, offset, kind, word: 9 }.row();
+    let last = session(tables, 70, |session| {
+        assert_eq!(tried(session, &[reply(3, Kind::Integer)]), 17);
+        assert_eq!(tried(session, &[reply(2, Kind::Octet)]), 17);
+        assert_eq!(tried(session, &[reply(2, Kind::Integer); sizes::REPLY_LIMIT + 1]), 17);
+        assert_eq!(tried(session, &[reply(2, Kind::Integer)]), 0);
+        assert_eq!((position(session), word(session, at(N, 2))), ((1, 2), 9));
+        assert!(session.back().is_ok());
+        assert_eq!((position(session), word(session, at(N, 2))), ((0, 0), 0));
+        tried(session, &[reply(2, Kind::Integer); sizes::REPLY_LIMIT])
+    });
+    assert_eq!(last, Ok(0));
 }
 
+/// A session keeps foreign writers out; these come by the raw calls.
 #[test]
 fn foreign_writer() {
-    let (mut memory, mut journal) = ([0; CELLS * 2], [0; 12]);
-    let rows = logic(SHL, O, 0, integer(1));
+    let rows = [logic(BinaryOperator::Shl, at(O, 0), 1)];
     let tables = bench(&rows);
-    let start = open(&tables, &mut memory, &journal).unwrap();
-    memory[O_CELL * 2 + 1] = 256;
-    assert_eq!(number(forward(&tables, &mut memory, &mut journal, start, &[])), 18);
-    let past = Position { done: 2, used: 0 };
-    assert_eq!(number(forward(&tables, &mut memory, &mut journal, past, &[])), 19);
-    let none_used = Position { done: 1, used: 0 };
-    assert_eq!(number(back(&tables, &mut memory, &journal, none_used)), 19);
+    let (mut memory, mut journal, mut position) = ([0; CELLS * 2], [0; 12], [9; 2]);
+    assert_eq!(raw::open(&tables, &mut memory, &journal, &mut position, &mut [0; 6]), 0);
+    assert_eq!(position, [0, 0]);
+    memory[tables.cell_of(at(O, 0)).unwrap() * 2 + 1] = 256;
+    assert_eq!(raw::forward(&tables, &mut memory, &mut journal, &mut position, &[]), 18);
+    assert_eq!(raw::forward(&tables, &mut memory, &mut journal, &mut [2, 0], &[]), 19);
+    assert_eq!(raw::back(&tables, &mut memory, &journal, &mut [1, 0]), 19);
 }
 
 #[test]
 fn causes_and_menders() {
     assert_eq!(Refusal::JournalFull.mender(), Mender::Student);
-    assert_eq!(Refusal::Unreadable.mender(), Mender::ForeignWriter);
-    assert_eq!(Refusal::End.to_string(), "refused with 11: the program is at its end");
+    assert_eq!(Refusal::ForeignPosition.mender(), Mender::ForeignWriter);
+    assert_eq!(Refusal::AtEnd.to_string(), "refused 11: the program is at its end");
+    assert_eq!(Refusal::Unknown(99).to_string(), "refused 99: the cause is unknown to this version");
+    assert_eq!(Refusal::Unknown(99).mender(), Mender::Unknown);
 }

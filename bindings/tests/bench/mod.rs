@@ -1,6 +1,9 @@
 //! The bench's declarations and rows, for the tests: a BIT[2], n INTEGER[3], o OCTET[1], r REAL[2].
 #![allow(dead_code)]
-use mugwortlatch::{back, forward, open, sizes, Position, Refusal, Tables};
+use mugwortlatch::{
+    flattened, sizes, ArithmeticOperator, BinaryOperator, Instruction, Kind, MemoryReference, Refusal, Region, Session,
+    Source, Tables,
+};
 
 pub const A: u64 = 0;
 pub const N: u64 = 1;
@@ -9,115 +12,62 @@ pub const R: u64 = 3;
 /// Declared nowhere.
 pub const Q: u64 = 9;
 
-pub const REGIONS: &[u64] = &[A, 0, 2, N, 1, 3, O, 2, 1, R, 3, 2];
+pub static REGIONS: [[u64; sizes::REGION_WIDTH]; 4] = [
+    Region { name: A, kind: Kind::Bit, length: 2 }.row(),
+    Region { name: N, kind: Kind::Integer, length: 3 }.row(),
+    Region { name: O, kind: Kind::Octet, length: 1 }.row(),
+    Region { name: R, kind: Kind::Real, length: 2 }.row(),
+];
 pub const CELLS: usize = 8;
-/// The first cell of each region.
-pub const N_CELL: usize = 2;
-pub const O_CELL: usize = 5;
-pub const R_CELL: usize = 6;
 
-pub type Row = [u64; sizes::INSTRUCTION];
-pub type Source = [u64; 3];
+pub type Row = [u64; sizes::INSTRUCTION_WIDTH];
 
-pub fn integer(value: i64) -> Source {
-    [0, value as u64, 0]
+pub fn at(name: u64, index: u64) -> MemoryReference {
+    MemoryReference { name, index }
 }
 
-pub fn real(value: f64) -> Source {
-    [1, value.to_bits(), 0]
+pub fn add(destination: MemoryReference, source: impl Into<Source>) -> Row {
+    Instruction::Arithmetic { operator: ArithmeticOperator::Add, destination, source: source.into() }.row()
 }
 
-pub fn reference(name: u64, index: u64) -> Source {
-    [2, name, index]
+pub fn divide(destination: MemoryReference, source: impl Into<Source>) -> Row {
+    Instruction::Arithmetic { operator: ArithmeticOperator::Divide, destination, source: source.into() }.row()
 }
 
-pub const NONE: Source = [3, 0, 0];
-
-pub fn row(family: u64, operator: u64, operands: [u64; 4], source: Source) -> Row {
-    let [a, b, c, d] = operands;
-    let [x, y, z] = source;
-    [family, operator, a, b, c, d, x, y, z]
+pub fn logic(operator: BinaryOperator, destination: MemoryReference, source: impl Into<Source>) -> Row {
+    Instruction::BinaryLogic { operator, destination, source: source.into() }.row()
 }
 
-pub fn add(name: u64, index: u64, source: Source) -> Row {
-    row(0, 0, [name, index, 0, 0], source)
+pub fn mov(destination: MemoryReference, source: impl Into<Source>) -> Row {
+    Instruction::Move { destination, source: source.into() }.row()
 }
 
-pub fn divide(name: u64, index: u64, source: Source) -> Row {
-    row(0, 2, [name, index, 0, 0], source)
+pub fn call(name: u64, first_argument: u64, argument_count: u64) -> Row {
+    Instruction::Call { name, first_argument, argument_count }.row()
 }
-
-pub fn logic(operator: u64, name: u64, index: u64, source: Source) -> Row {
-    row(2, operator, [name, index, 0, 0], source)
-}
-
-pub const SHL: u64 = 3;
-pub const ASHR: u64 = 5;
-
-pub fn mov(name: u64, index: u64, source: Source) -> Row {
-    row(4, 0, [name, index, 0, 0], source)
-}
-
-pub fn exchange(left: [u64; 2], right: [u64; 2]) -> Row {
-    row(5, 0, [left[0], left[1], right[0], right[1]], NONE)
-}
-
-pub fn load(name: u64, index: u64, region: u64, offset: [u64; 2]) -> Row {
-    row(6, 0, [name, index, region, 0], reference(offset[0], offset[1]))
-}
-
-pub fn store(region: u64, offset: [u64; 2], source: Source) -> Row {
-    row(7, 0, [region, 0, offset[0], offset[1]], source)
-}
-
-pub fn frame(first: u64, count: u64) -> Row {
-    row(8, 0, [first, count, 0, 0], NONE)
-}
-
-pub fn call(name: u64, first: u64, count: u64) -> Row {
-    row(9, 0, [name, first, count, 0], NONE)
-}
-
-pub const NOP: Row = [10, 0, 0, 0, 0, 0, 3, 0, 0];
-pub const OTHER: Row = [10, 1, 0, 0, 0, 0, 3, 0, 0];
 
 /// The bench's regions with these instructions.
-pub fn bench(instructions: &[u64]) -> Tables<'_> {
-    Tables { regions: REGIONS, instructions, ..Tables::default() }
+pub fn bench(instructions: &[Row]) -> Tables<'_> {
+    Tables { regions: flattened(&REGIONS), instructions: flattened(instructions), ..Tables::default() }
 }
 
-/// An opened session that keeps its position, with room for that many journal entries.
-pub struct Session<'a> {
-    pub tables: Tables<'a>,
-    pub memory: Vec<u64>,
-    pub journal: Vec<u64>,
-    pub position: Position,
+/// What a session with room for that many journal entries comes to. Its buffers start with words of no meaning.
+pub fn session<T>(tables: Tables, entries: usize, run: impl FnOnce(&mut Session) -> T) -> Result<T, Refusal> {
+    let mut memory = [7; CELLS * sizes::CELL_WIDTH];
+    let mut journal = vec![7; entries * sizes::ENTRY_WIDTH];
+    let mut session = Session::open(tables, &mut memory, &mut journal)?;
+    Ok(run(&mut session))
 }
 
-impl<'a> Session<'a> {
-    pub fn open(tables: Tables<'a>, entries: usize) -> Result<Self, Refusal> {
-        let mut memory = vec![7; CELLS * sizes::CELL];
-        let journal = vec![7; entries * sizes::JOURNAL_ENTRY];
-        let position = open(&tables, &mut memory, &journal)?;
-        Ok(Session { tables, memory, journal, position })
-    }
+/// So many forwards, none refused.
+pub fn steps(session: &mut Session, count: usize) {
+    (0..count).for_each(|_| assert!(session.forward(&[]).is_ok()));
+}
 
-    pub fn forward(&mut self, reply: &[u64]) -> Result<Position, Refusal> {
-        self.position = forward(&self.tables, &mut self.memory, &mut self.journal, self.position, reply)?;
-        Ok(self.position)
-    }
+pub fn word(session: &Session, reference: MemoryReference) -> u64 {
+    session.cell(reference).unwrap().word
+}
 
-    pub fn back(&mut self) -> Result<Position, Refusal> {
-        self.position = back(&self.tables, &mut self.memory, &self.journal, self.position)?;
-        Ok(self.position)
-    }
-
-    /// So many forwards, none refused.
-    pub fn steps(&mut self, count: usize) {
-        (0..count).for_each(|_| assert!(self.forward(&[]).is_ok()));
-    }
-
-    pub fn word(&self, cell: usize) -> u64 {
-        self.memory[cell * sizes::CELL + 1]
-    }
+pub fn position(session: &Session) -> (u64, u64) {
+    (session.position().done, session.position().used)
 }

@@ -87,7 +87,7 @@ fn walk(count: u64) -> Case {
     inputs::frames(&mut tables, 1, count);
     let nodes = tables.nodes;
     let expression = tree(&nodes, |_, node| plain_leaf(node)).expect("one tree");
-    let ours = move || mugwortlatch::references(hidden(&nodes), 0, count).map_or(0, Iterator::count);
+    let ours = move || mugwortlatch::memory_references(hidden(&nodes), 0, count).map_or(0, Iterator::count);
     let theirs = move || hidden(&expression).memory_references().count();
     assert_eq!(ours(), theirs());
     Case {

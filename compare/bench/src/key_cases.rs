@@ -4,7 +4,7 @@ use crate::{
     inputs,
 };
 use library::lent;
-use mugwortlatch::{sizes, Kind, Position, ReplyRow};
+use mugwortlatch::{raw, sizes, Kind, Reply};
 use tables::Tables;
 
 pub fn all() -> Vec<Case> {
@@ -49,18 +49,20 @@ fn one_at_its_limit() -> [(&'static str, Tables); 4] {
 
 /// 64 rows for a CALL's first argument, a mutable INTEGER.
 fn reply() -> Vec<u64> {
-    let row = ReplyRow { argument: 0, offset: 0, kind: Kind::Integer, word: 5 };
-    row.words().repeat(sizes::REPLY_ROWS)
+    let row = Reply { argument: 0, offset: 0, kind: Kind::Integer, word: 5 };
+    row.row().repeat(sizes::REPLY_LIMIT)
 }
 
 /// Forward at a row, and back from it. The session stands there as if the rows before had used no journal: forward
-/// and back look at no entry of theirs.
+/// and back look at no entry of theirs. Such a position is no session's, so these are the raw calls.
 fn presses(input: &str, goal: Option<f64>, tables: &Tables, row: u64, reply: &[u64]) -> [Case; 2] {
     let (mut memory, mut journal) = buffers();
-    mugwortlatch::open(&lent(tables), &mut memory, &journal).expect("accepted");
-    let before = Position { done: row, used: 0 };
-    let after = mugwortlatch::forward(&lent(tables), &mut memory, &mut journal, before, reply).expect("no refusal");
-    assert_eq!(mugwortlatch::back(&lent(tables), &mut memory, &journal, after), Ok(before), "{input}");
+    assert_eq!(raw::open(&lent(tables), &mut memory, &journal, &mut [0; 2], &mut [0; 6]), 0, "{input}");
+    let (before, mut position) = ([row, 0], [row, 0]);
+    assert_eq!(raw::forward(&lent(tables), &mut memory, &mut journal, &mut position, reply), 0, "{input}");
+    let after = position;
+    assert_eq!(raw::back(&lent(tables), &mut memory, &journal, &mut position), 0, "{input}");
+    assert_eq!(position, before, "{input}");
     let case = |call, ours| Case {
         call,
         input: input.to_string(),
@@ -69,27 +71,32 @@ fn presses(input: &str, goal: Option<f64>, tables: &Tables, row: u64, reply: &[u
         ours,
         theirs: one_read(tables.clone()),
     };
-    let forward = {
-        let (tables, reply) = (tables.clone(), reply.to_vec());
-        let (mut memory, mut journal) = (memory.clone(), journal.clone());
-        move || {
-            let tables = lent(&tables);
-            let moved = mugwortlatch::forward(hidden(&tables), &mut memory, &mut journal, before, &reply);
-            assert!(hidden(moved).is_ok());
-        }
-    };
-    let back = {
-        let tables = tables.clone();
-        move || {
-            let tables = lent(&tables);
-            assert!(hidden(mugwortlatch::back(hidden(&tables), &mut memory, &journal, after)).is_ok());
-        }
-    };
-    [case("forward", Box::new(forward) as Call), case("back", Box::new(back))]
+    let buffers = (memory.clone(), journal.clone());
+    let forward = forward(tables.clone(), buffers, before, reply.to_vec());
+    [case("forward", forward), case("back", back(tables.clone(), (memory, journal), after))]
 }
 
-fn buffers() -> (Vec<u64>, Vec<u64>) {
-    (vec![0; sizes::CELLS * sizes::CELL], vec![0; sizes::JOURNAL_ENTRIES * sizes::JOURNAL_ENTRY])
+fn forward(tables: Tables, (mut memory, mut journal): Buffers, before: [u64; 2], reply: Vec<u64>) -> Call {
+    Box::new(move || {
+        let (tables, mut position) = (lent(&tables), before);
+        let answer = raw::forward(hidden(&tables), &mut memory, &mut journal, &mut position, &reply);
+        assert_eq!(hidden((answer, position)).0, 0);
+    })
+}
+
+fn back(tables: Tables, (mut memory, journal): Buffers, after: [u64; 2]) -> Call {
+    Box::new(move || {
+        let (tables, mut position) = (lent(&tables), after);
+        let answer = raw::back(hidden(&tables), &mut memory, &journal, &mut position);
+        assert_eq!(hidden((answer, position)).0, 0);
+    })
+}
+
+/// Memory and journal.
+type Buffers = (Vec<u64>, Vec<u64>);
+
+fn buffers() -> Buffers {
+    (vec![0; sizes::MEMORY_WORDS], vec![0; sizes::JOURNAL_WORDS])
 }
 
 /// Each word loaded once, by itself: a volatile read keeps the compiler from loading several at a time.

@@ -1,0 +1,13 @@
+//! What a call refuses with is an `Error`, where there is std.
+use crate::{CallArgumentError, CallArgumentResolutionError, Refusal, TypeError, Unresolved};
+use std::error::Error;
+
+impl Error for Refusal {}
+
+impl Error for TypeError {}
+
+impl Error for Unresolved<'_> {}
+
+impl Error for CallArgumentError {}
+
+impl Error for CallArgumentResolutionError {}
