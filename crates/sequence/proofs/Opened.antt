@@ -13,12 +13,12 @@ use Rattle.type_check.specs.declared.error.Verdict.the-variants as T
 use Rattle.journal.specs.Position.{firstPosition}
 use Rattle.journal.specs.Cells.{cellWidth}
 use Rattle.operands.specs.Kinds.{zeros}
-use Rattle.session.specs.Prepare.{preparedOf}
+use Rattle.session.specs.Prepare.{tablesLook, preparedOf}
 use Rattle.session.specs.Leaves.{withTail}
 use Rattle.session.specs.declared.answer.OpenAnswer.the-variants.{Opened}
 use Rattle.session.proofs.Prepared as session
 use Rattle.session.proofs.Prepared.{Facts}
-use Rattle.session_open.specs.Open.{OpenLook, accepted, refused, mistyped, unlessRefused, unlessError, programLook, programVerdict, openVerdict, openCells, openTables}
+use Rattle.session_open.specs.Open.{OpenLook, accepted, refused, mistyped, unlessRefused, unlessError, programLook, programVerdict, tablesVerdict, openVerdict, openCells, openTables}
 
 -- 1, 2, 3, 10 and 4 look at the tables and at lengths, which no call changes: after open neither forward nor back is refused with these numbers
 pub record Accepts (t : Tables) (memory : List ℕ) (words : ℕ) : Type 0 where
@@ -48,15 +48,16 @@ unfaulted T.Accepted rest e = refl
 unfaulted (T.Error x) rest e = let z : _≡_ {A = ℕ} 0 1 = cc in absurd (omega arith)
 
 pub accepts : (t : Tables) (memory : List ℕ) (words : ℕ) → openTables t memory words .answer ≡ Opened firstPosition → Accepts t memory words
-unfolding openTables withTail openVerdict programVerdict openCells
+unfolding openTables withTail openVerdict tablesVerdict programVerdict openCells
 accepts t memory words e =
     let w : ℕ = cellWidth * cellCount (t .regions) in
     let verdict = opens (t .regions) (take w memory) (openVerdict t (length memory) words) e in
-    let p = unrefused (preparedOf t (length memory) words) (programVerdict t) verdict in
+    let p = unrefused (preparedOf t (length memory) words) (tablesVerdict t) verdict in
+    let q = unrefused (tablesLook t) (programVerdict t) (p .rest-is) in
     let given = p .given ∙ ap ok (session.prepared t (length memory) words (p .given) .count) in
     record {
       prepared = given;
       facts = session.prepared t (length memory) words given;
-      checked = unfaulted (checkOf (t .regions) (t .nodes) (t .instructions)) (unlessRefused (programLook t) accepted) (p .rest-is);
+      checked = unfaulted (checkOf (t .regions) (t .nodes) (t .instructions)) (unlessRefused (programLook t) accepted) (q .rest-is);
       zeroed = ap (λ (v : OpenLook). openCells (t .regions) (take w memory) v .memory ++ drop w memory) verdict;
     }

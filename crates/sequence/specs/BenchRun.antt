@@ -41,7 +41,7 @@ use Rattle.machine.specs.Outcome.{plainOutcome, outcomeOf, outcomeAt}
 use Rattle.session.specs.Prepare.{tablesLook, buffersFit, preparedOf}
 use Rattle.session.specs.Position.{positionFits, placedLook, roomFor}
 use Rattle.session.specs.Leaves.{withTail}
-use Rattle.session_open.specs.Open.{noOther, callLook, callsLook, programLook, programVerdict, openVerdict, openCells, openTables}
+use Rattle.session_open.specs.Open.{noOther, callLook, callsLook, programLook, programVerdict, tablesVerdict, openVerdict, openCells, openTables}
 use Rattle.session_forward.specs.Forward.{stepLook, forwardLook, stepped, forwardTables}
 use Rattle.session_back.specs.Back.{journalLook, backLook, takenBack, backTables}
 use Rattle.session.specs.declared.answer.OpenAnswer.{OpenAnswer}
@@ -117,7 +117,7 @@ unfolding fitsKind widthOf lowBits signed wordOf integerIsNegative integerDivide
     operandsOf namesFirst namesSecond indexesFirst indexesSecond zeros zerosFrom declaredKind regionOf regionAmong outcomeAt outcomeOf plainOutcome namesOf namedOf addressesOf writtenOf indexedOf indexFits addressOf
     readOf sourceOf offsetOf families.familyOf families.putInto families.combinedOf families.arithmeticOf families.logicOf families.moveOf families.exchangeOf
     families.loadOf arithmeticResult integerResult logicResult
-    openTables openCells openVerdict programVerdict preparedOf tablesLook buffersFit programLook noOther callsLook callLook withTail
+    openTables openCells openVerdict tablesVerdict programVerdict preparedOf tablesLook buffersFit programLook noOther callsLook callLook withTail
     forwardTables stepped forwardLook placedLook stepLook roomFor positionFits backTables takenBack backLook journalLook answers end
 run nodes program entries calls =
     let t : Tables = tablesOf declarations [] [] nodes [] program in

@@ -46,13 +46,22 @@ unfolding _>>_
 then-ok (ok u) r b e = (refl, e)
 then-ok (refuse n) r b e = let z : _≡_ {A = ℕ} 0 1 = cc in absurd (omega arith)
 
+-- the tables' looks, with which they begin, have passed
+pub tables-looked : (t : Tables) (memory journal : ℕ) {n : ℕ} → preparedOf t memory journal ≡ ok n → tablesLook t ≡ ok n
+unfolding preparedOf
+tables-looked t memory journal {n} e =
+    let b = bound (tablesLook t) _ n e in
+    let (f, e₁) = passed (buffersFit (b .value) memory journal) _ _ n (b .rest) in
+    let q : b .value ≡ n = cc in
+    b .given ∙ ap ok q
+
 pub prepared : (t : Tables) (memory journal : ℕ) {n : ℕ} → preparedOf t memory journal ≡ ok n → Facts t memory journal n
 unfolding preparedOf tablesLook
 prepared t memory journal {n} e =
     let b = bound (tablesLook t) _ n e in
     let (f, e₁) = passed (buffersFit (b .value) memory journal) _ _ n (b .rest) in
     let q : b .value ≡ n = cc in
-    let (l, e₂) = then-ok (loadLook t) (cellsOf (t .regions)) n (b .given ∙ ap ok q) in
+    let (l, e₂) = then-ok (loadLook t) (cellsOf (t .regions)) n (tables-looked t memory journal e) in
     let c = cells-given (t .regions) n e₂ in
     let s = fitting n memory journal (rw q at f) in
     record { loads = l; count = c .0; few = c .1; room = s .room; whole = s .whole; short = s .short }

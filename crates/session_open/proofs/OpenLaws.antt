@@ -12,9 +12,9 @@ use Rattle.journal.specs.Cells.{cellWidth}
 use Rattle.session.specs.Prepare.{preparedOf, Ready}
 use Rattle.session.specs.declared.answer.OpenAnswer.{OpenAnswer}
 use Rattle.session.specs.declared.answer.OpenAnswer.the-variants.{Refused}
-use Rattle.session.proofs.Prepared.{prepared}
+use Rattle.session.proofs.Prepared.{prepared, tables-looked}
 use Rattle.session.proofs.LeavesLaws.{tail-kept, all-kept}
-use Rattle.session_open.specs.Open.{CallsInside, OpenLook, refused, programVerdict, openVerdict, opening, openCells, Openable, openTables}
+use Rattle.session_open.specs.Open.{CallsInside, OpenLook, refused, unlessRefused, programVerdict, tablesVerdict, openVerdict, opening, openCells, Openable, openTables}
 
 -- every CALL's ranges lie in their tables
 pub loaded-calls : {t : Tables} → Loaded t → CallsInside (t .externs) (t .parameters) (t .arguments) (t .instructions)
@@ -35,7 +35,7 @@ module _ (t : Tables) (memory : List ℕ) (journal : ℕ) where
   pub open-on : {n : ℕ} → preparedOf t (length memory) journal ≡ ok n → {a : OpenAnswer} {cells : List ℕ}
       → opening a cells ≡ openCells (t .regions) (take (cellWidth * n) memory) (programVerdict t)
       → opening a (cells ++ drop (cellWidth * n) memory) ≡ openTables t memory journal
-  unfolding openTables openVerdict
+  unfolding openTables openVerdict tablesVerdict
   open-on {n} e h =
-      rw (e, ← prepared t (length memory) journal e .count)
+      rw (e, tables-looked t (length memory) journal e, ← prepared t (length memory) journal e .count)
       (tail-kept (cellWidth * n) memory (λ cells. openCells (t .regions) cells (programVerdict t)) h)

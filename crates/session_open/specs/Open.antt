@@ -22,7 +22,7 @@ use Rattle.journal.specs.Cells.{cellWidth}
 use Rattle.operands.specs.Kinds.{zeros}
 use Rattle.operands.specs.Reach.{Layout}
 use Rattle.machine.specs.Outcome.{isCall, isOther}
-use Rattle.session.specs.Prepare.{preparedOf}
+use Rattle.session.specs.Prepare.{tablesLook, preparedOf}
 use Rattle.session.specs.Leaves.{Leaves, leaves, withTail}
 use Rattle.session.specs.declared.answer.OpenAnswer.{OpenAnswer}
 use Rattle.session.specs.declared.answer.OpenAnswer.the-variants.{Opened, Refused, Error}
@@ -80,16 +80,20 @@ abbrev pub unlessError : Verdict → OpenLook → OpenLook
 unlessError T.Accepted rest = rest
 unlessError (T.Error e) rest = mistyped e
 
--- "5, 9, then 6, 7, 8 by row": with the tables' looks before them these are open's without the buffers
+-- "5, 9, then 6, 7, 8 by row"
 unfoldable pub programVerdict : Tables → OpenLook
 programVerdict t =
     unlessError (checkOf (t .regions) (t .nodes) (t .instructions))
     (unlessRefused (programLook t)
     accepted)
 
--- all of them; memory and journal are lengths in words
+-- "1, 2, 3, 10 .. 5, 9, then 6, 7, 8 by row": open's looks without the buffers
+unfoldable pub tablesVerdict : Tables → OpenLook
+tablesVerdict t = unlessRefused (tablesLook t) (programVerdict t)
+
+-- "1, 2, 3, 10, 4, 5, ..": 4 is looked for before 5; what passed ahead of it passes again. memory and journal are lengths in words.
 unfoldable pub openVerdict : Tables → ℕ → ℕ → OpenLook
-openVerdict t memory journal = unlessRefused (preparedOf t memory journal) (programVerdict t)
+openVerdict t memory journal = unlessRefused (preparedOf t memory journal) (tablesVerdict t)
 
 -- ---- what open leaves; it writes no journal word
 
