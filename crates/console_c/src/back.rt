@@ -3,7 +3,7 @@ ghost use Rattle.tables.specs.Tables.{tablesOf};
 ghost use Rattle.console_c.specs.Back.{wentBackWords, consoleBack};
 use crate::position::position_in;
 use crate::position::write_position;
-use console::back::back;
+use console_session::back::back;
 use session::answer::StepAnswer;
 
 #[no_mangle]

@@ -3,7 +3,7 @@ ghost use Rattle.tables.specs.Tables.{tablesOf};
 ghost use Rattle.console_c.specs.Forward.{forwardedWords, consoleForward};
 use crate::position::position_in;
 use crate::position::write_position;
-use console::forward::forward;
+use console_session::forward::forward;
 use session::answer::StepAnswer;
 
 #[no_mangle]

@@ -4,7 +4,7 @@ ghost use Rattle.tables.specs.Tables.{tablesOf};
 ghost use Rattle.console_c.specs.Open.{openedWords, consoleOpen};
 use crate::check::write_error;
 use crate::position::write_position;
-use console::open::open;
+use console_session::open::open;
 use session::answer::OpenAnswer;
 use tables::refusal::TYPE_ERROR;
 

@@ -11,8 +11,8 @@ use Rattle.session.specs.declared.prepare.Prepared.{Prepared}
 use Rattle.session.proofs.Prepared.{Facts, prepared, ready}
 use Rattle.session_forward.proofs.StepLaws.{ready-steppable, forward-unprepared, forward-on}
 use borrow.Author.Needs.{needs}
-use Rattle.console.proofs.forward.forward.Statement.{statement}
-use Rattle.console.proofs.forward.forward.Tie as tie
+use Rattle.console_session.proofs.forward.forward.Statement.{statement}
+use Rattle.console_session.proofs.forward.forward.Tie as tie
 
 -- ---- the places, and what the first looks have seen
 

@@ -8,11 +8,11 @@ use Rattle.tables.specs.Tables.{Tables, tablesOf}
 use Rattle.journal.specs.Cells.{cellWidth}
 use Rattle.session.specs.Prepare.{preparedOf, preparedOutcome}
 use Rattle.session.specs.declared.prepare.Prepared.{Prepared}
-use Rattle.session.proofs.Prepared.{Facts, prepared}
-use Rattle.session_back.proofs.BackLaws.{back-unprepared, back-on}
+use Rattle.session.proofs.Prepared.{Facts, prepared, ready}
+use Rattle.session_open.proofs.OpenLaws.{ready-open, open-unprepared, open-on}
 use borrow.Author.Needs.{needs}
-use Rattle.console.proofs.back.back.Statement.{statement}
-use Rattle.console.proofs.back.back.Tie as tie
+use Rattle.console_session.proofs.open.open.Statement.{statement}
+use Rattle.console_session.proofs.open.open.Tie as tie
 
 -- ---- the places, and what the first looks have seen
 
@@ -46,23 +46,23 @@ enum-known-prepared c = search needs
 enum-known-prepared-2 : tie.Need-enum-known-prepared-2
 enum-known-prepared-2 c = search needs
 
-mul-take-back : tie.Need-mul-take-back
-mul-take-back c = omega (arith, facts (c .before) .few)
+mul-open-cells : tie.Need-mul-open-cells
+mul-open-cells c = omega (arith, facts (c .before) .few)
 
-slice-relend-prefix-take-back : tie.Need-slice-relend-prefix-take-back
-slice-relend-prefix-take-back c = facts (c .before) .room
+slice-relend-prefix-open-cells : tie.Need-slice-relend-prefix-open-cells
+slice-relend-prefix-open-cells c = facts (c .before) .room
 
-slice-aggregate-take-back : tie.Need-slice-aggregate-take-back
-slice-aggregate-take-back c = let at = c .before .before in sym (length-take-le (cellWidth * at .prepared2 .given .0 .0) (entry (looked at) .args .memory .now) (facts at .room))
+slice-aggregate-open-cells : tie.Need-slice-aggregate-open-cells
+slice-aggregate-open-cells c = let at = c .before .before in sym (length-take-le (cellWidth * at .prepared2 .given .0 .0) (entry (looked at) .args .memory .now) (facts at .room))
 
-take-back-requires : tie.Need-take-back-requires
-take-back-requires c κs = search needs
+open-cells-requires : tie.Need-open-cells-requires
+open-cells-requires c κs = ready-open (ready _ _ _ (facts (c .before .before)))
 
 returns : tie.Need-returns
 returns c =
     let at = c .before .before .before in
     let s = entry at in
-    back-unprepared (tablesAt s) (s .args .memory .now) (s .args .journal .now) (s .args .position) (looks at (c .before .prepared .given .1))
+    open-unprepared (tablesAt s) (s .args .memory .now) _ (looks at (c .before .prepared .given .1))
 
 same-length : tie.Need-same-length
 same-length c = search needs
@@ -72,19 +72,19 @@ returns-2 c =
     let after = c .before .before in
     let at = after .before .before .before in
     let s = entry (looked at) in
-    back-on (tablesAt s) (s .args .memory .now) (s .args .journal .now) (s .args .position) (looks (looked at) (at .prepared2 .given .1)) (after .take-back .ensures)
+    open-on (tablesAt s) (s .args .memory .now) _ (looks (looked at) (at .prepared2 .given .1)) (after .open-cells .ensures)
 
-pub back-spec : {M : Type 1} → statement M
-back-spec =
+pub open-spec : {M : Type 1} → statement M
+open-spec =
     tie.close
     (tie.spec
     prepare-requires
     enum-known-prepared
     enum-known-prepared-2
-    mul-take-back
-    slice-relend-prefix-take-back
-    slice-aggregate-take-back
-    take-back-requires
+    mul-open-cells
+    slice-relend-prefix-open-cells
+    slice-aggregate-open-cells
+    open-cells-requires
     returns
     same-length
     returns-2)
