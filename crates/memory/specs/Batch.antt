@@ -7,7 +7,7 @@ use Rattle.memory.specs.References.{nextOf, nodesIn}
 use Rattle.memory.specs.declared.MemoryReference.{MemoryReference}
 use Rattle.memory.specs.declared.Next.{Next}
 use Rattle.memory.specs.declared.Next.the-variants.{Reference, End}
-use Rattle.memory.specs.declared.Handed.{Handed}
+use Rattle.memory.specs.declared.batch.Handed.{Handed}
 
 -- the references that were handed out, and the place to go on from
 pub record Batch : Type 0 where

@@ -3,10 +3,10 @@ use mathlib.Core.Path.{_≡_}
 use native.Mathlib.Omega.{arith}
 use lib.ListN.{length-set}
 use borrow.Author.Needs.{needs}
-use Rattle.memory.proofs.put_reference.Statement.{statement}
-use Rattle.memory.proofs.put_reference.Tie as tie
-use Rattle.memory.proofs.put_reference.Reads as reads
-use Rattle.memory.proofs.put_reference.Lts as lts
+use Rattle.memory.proofs.batch.put_reference.Statement.{statement}
+use Rattle.memory.proofs.batch.put_reference.Tie as tie
+use Rattle.memory.proofs.batch.put_reference.Reads as reads
+use Rattle.memory.proofs.batch.put_reference.Lts as lts
 
 mul-at : tie.Need-mul-at
 mul-at c = search needs

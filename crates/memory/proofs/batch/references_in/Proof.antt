@@ -5,11 +5,11 @@ use lib.ListN.{take, drop}
 use Rattle.memory.specs.Batch.{batchIn, handOut, handOutIn}
 use Rattle.memory.proofs.ReferenceLaws.{one-tree-inside, part-words}
 use borrow.Author.Needs.{needs}
-use Rattle.memory.proofs.references_in.Statement.{statement}
-use Rattle.memory.proofs.references_in.Tie as tie
-use Rattle.memory.proofs.references_in.Reads as reads
-use Rattle.memory.proofs.references_in.Lts as lts
-use Rattle.memory.proofs.references_from.Reads as references-from-reads
+use Rattle.memory.proofs.batch.references_in.Statement.{statement}
+use Rattle.memory.proofs.batch.references_in.Tie as tie
+use Rattle.memory.proofs.batch.references_in.Reads as reads
+use Rattle.memory.proofs.batch.references_in.Lts as lts
+use Rattle.memory.proofs.batch.references_from.Reads as references-from-reads
 
 mul-start : tie.Need-mul-start
 mul-start c = omega (arith, one-tree-inside _ _ _ (c .before .before .pre))

@@ -5,12 +5,12 @@ use lib.ListN.{length}
 use Rattle.memory.specs.Batch.{handOut}
 use Rattle.memory.proofs.BatchLaws.{leftFrom, left-start, left-end, left-turn, left-full}
 use borrow.Author.Needs.{needs}
-use Rattle.memory.proofs.references_from.Statement.{statement}
-use Rattle.memory.proofs.references_from.Tie as tie
-use Rattle.memory.proofs.references_from.Reads as reads
-use Rattle.memory.proofs.references_from.Lts as lts
+use Rattle.memory.proofs.batch.references_from.Statement.{statement}
+use Rattle.memory.proofs.batch.references_from.Tie as tie
+use Rattle.memory.proofs.batch.references_from.Reads as reads
+use Rattle.memory.proofs.batch.references_from.Lts as lts
 use Rattle.memory.proofs.next_from.Reads as next-from-reads
-use Rattle.memory.proofs.put_reference.Reads as put-reference-reads
+use Rattle.memory.proofs.batch.put_reference.Reads as put-reference-reads
 
 abbrev Inv-loop : tie.InvT-loop
 Inv-loop nodes place rows₀ room count₀ passed₀ rows count passed = (length rows ≡ length rows₀) × (leftFrom nodes room passed count rows ≡ handOut nodes place rows₀)
