@@ -7,6 +7,7 @@ use native.Mathlib.Omega.{arith}
 use borrow.Author.Tests.{eqb-false}
 use lib.Dec.{eqb}
 use Rattle.tables.specs.Outcome.{ok, _>>=_}
+use Rattle.tables.specs.Family as family
 use Rattle.tables.specs.Rows.{instructionRows, externAt, instructionAt}
 use Rattle.tables.specs.Lookup.{lookupExtern}
 use Rattle.tables.specs.declared.lookup.Found.{Found}
@@ -20,7 +21,7 @@ use Rattle.extern_call.specs.declared.call.ExternCall.{ExternCall}
 use Rattle.extern_call.specs.declared.call.Place.the-variants.{Return, Parameter}
 
 -- what the loader's acceptance gives a CALL's row
-pub loaded-ranges : {t : Tables} (l : Loaded t) (row : ℕ) → row < instructionRows (t .instructions) → instructionAt (t .instructions) row .family ≡ 9
+pub loaded-ranges : {t : Tables} (l : Loaded t) (row : ℕ) → row < instructionRows (t .instructions) → instructionAt (t .instructions) row .family ≡ family.call
     → CallRanges (t .externs) (t .parameters) (t .arguments) (instructionAt (t .instructions) row)
 loaded-ranges l row h f = record { argumentRange = call-arguments l row h f; parameterRange = extern-parameters l }
 

@@ -10,6 +10,7 @@ use borrow.Author.Tests.{ltb-true, leb-true, eqb-true}
 use Rattle.tables.specs.Outcome.{Outcome, ok, refuse, _>>=_, _>>_, need}
 use Rattle.tables.specs.Tables.{Tables}
 use Rattle.tables.specs.Rows as R
+use Rattle.tables.specs.Family as family
 use Rattle.tables.specs.Tree.{inside, oneTree}
 use Rattle.loader.specs.Shape.{wholeRows, wholeTables}
 use Rattle.loader.specs.Allowed as A
@@ -167,7 +168,7 @@ module _ {t : Tables} (l : Loaded t) where
       both (I.sourceAllowed x) _ (both (I.formAllowed (x .family) (x .«source_form»)) _ (both (ltb (x .operator) (I.operatorsOf (x .family))) _ (instruction-allowed r h) .1) .1) .1
 
   -- a frame's nodes are exactly one tree of the node table
-  pub frame-tree : (r : ℕ) → r < R.instructionRows (t .instructions) → R.instructionAt (t .instructions) r .family ≡ 8
+  pub frame-tree : (r : ℕ) → r < R.instructionRows (t .instructions) → R.instructionAt (t .instructions) r .family ≡ family.frame
       → oneTree (t .nodes) (R.instructionAt (t .instructions) r .«first_name») (R.instructionAt (t .instructions) r .«first_index») ≡ true
   unfolding I.operandsAllowed
   frame-tree r h f =
@@ -175,14 +176,14 @@ module _ {t : Tables} (l : Loaded t) where
       both (eqb (x .«second_name») 0 && eqb (x .«second_index») 0) _ (rw f at (operands r h)) .1
 
   -- a CALL's arguments are rows of the argument table
-  pub call-arguments : (r : ℕ) → r < R.instructionRows (t .instructions) → R.instructionAt (t .instructions) r .family ≡ 9
+  pub call-arguments : (r : ℕ) → r < R.instructionRows (t .instructions) → R.instructionAt (t .instructions) r .family ≡ family.call
       → R.instructionAt (t .instructions) r .«first_index» + R.instructionAt (t .instructions) r .«second_name» ≤ R.argumentRows (t .arguments)
   unfolding I.operandsAllowed
   call-arguments r h f =
       let x = R.instructionAt (t .instructions) r in
       inside-le _ _ _ (both (eqb (x .«second_index») 0) _ (rw f at (operands r h)) .1)
 
-  pub frame-inside : (r : ℕ) → r < R.instructionRows (t .instructions) → R.instructionAt (t .instructions) r .family ≡ 8
+  pub frame-inside : (r : ℕ) → r < R.instructionRows (t .instructions) → R.instructionAt (t .instructions) r .family ≡ family.frame
       → R.instructionAt (t .instructions) r .«first_name» + R.instructionAt (t .instructions) r .«first_index» ≤ R.nodeRows (t .nodes)
   unfolding oneTree
   frame-inside r h f =

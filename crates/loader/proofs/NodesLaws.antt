@@ -1,18 +1,21 @@
 -- The nodes' words as the code tests them, one after the other from the last. Assumes nothing.
-use Prim.Native.Nat.{ℕ, zero, suc, _+_, _≤_, _<_}
+use Prim.Native.Nat.{ℕ, _+_, _≤_, _<_}
 use mathlib.Core.Bool.{Bool, true, false, _&&_}
-use mathlib.Core.List.{List}
+use mathlib.Core.List.{List, [], _∷_}
 use mathlib.Core.Path.{_≡_, refl, sym, _∙_}
 use native.Mathlib.Omega.{arith}
 use native.Mathlib.Decide.{ℕ-discrete}
 use lib.Dec.{eqb, leb}
-use borrow.Author.Tests.{ne-eqb, lt-leb}
+use borrow.Author.Tests.{lt-leb}
+use Rattle.tables.specs.Cases.{caseOf}
+use Rattle.tables.specs.First.{first, every}
 use Rattle.tables.specs.NodeTag as tag
 use Rattle.tables.specs.Tables.{Tables}
 use Rattle.tables.specs.Rows.{parameterRows, argumentRows, nodeRows, nodeAt}
 use Rattle.tables.specs.declared.rows.Node.{Node}
+use Rattle.tables.proofs.Cases.{by-key, past-keys, past-first}
 use Rattle.tables.proofs.FirstLaws.{every-all, every-miss}
-use Rattle.loader.specs.Allowed.{nodeAllowed, regionsAllowed, externsAllowed, parametersAllowed, nodesAllowed, argumentsAllowed}
+use Rattle.loader.specs.Allowed.{wordsByTag, nodeAllowed, regionsAllowed, externsAllowed, parametersAllowed, nodesAllowed, argumentsAllowed}
 use Rattle.loader.specs.Instruction.{instructionsAllowed}
 use Rattle.loader.specs.Load.{allowedTables}
 use Rattle.loader.proofs.Loaded.{both}
@@ -21,40 +24,42 @@ module _ (x : Node) where
   abbrev unused : Bool
   unused = eqb (x .first) 0 && eqb (x .second) 0
 
-  -- past the tags
-  past : tag.variable < x .tag → false ≡ nodeAllowed x
-  unfolding nodeAllowed
-  past h =
-      rw (ne-eqb (x .tag) 0 (omega arith), ne-eqb (x .tag) 1 (omega arith), ne-eqb (x .tag) 2 (omega arith), ne-eqb (x .tag) 3 (omega arith), ne-eqb (x .tag) 4 (omega arith), ne-eqb (x .tag) 5 (omega arith), ne-eqb (x .tag) 6 (omega arith))
-
-  -- by the tag t
-  without : (t : ℕ) → x .tag ≡ t → unused ≡ true → leb t tag.variable ≡ nodeAllowed x
-  unfolding nodeAllowed
-  without zero e u = rw e
-  without (suc zero) e u = rw (e, u)
-  without (suc (suc zero)) e u = rw (e, u)
-  without (suc (suc (suc zero))) e u = rw e
-  without (suc (suc (suc (suc zero)))) e u = rw (e, u)
-  without (suc (suc (suc (suc (suc zero))))) e u = rw (e, u)
-  without (suc (suc (suc (suc (suc (suc zero)))))) e u = rw (e, both (eqb (x .first) 0) (eqb (x .second) 0) u .1)
-  without (suc (suc (suc (suc (suc (suc (suc k))))))) e u = lt-leb (suc (suc (suc (suc (suc (suc (suc k))))))) 6 (omega arith) ∙ past (omega arith)
-
+  -- every tag allows unused words
   pub without-words : unused ≡ true → leb (x .tag) tag.variable ≡ nodeAllowed x
-  without-words = without (x .tag) refl
+  unfolding nodeAllowed caseOf first every
+  without-words u =
+      by-key (λ t. leb t tag.variable ≡ caseOf t (wordsByTag x) false)
+      (
+      (tag.address, refl)
+      ∷ (tag.functionCall, sym u)
+      ∷ (tag.infixExpression, sym u)
+      ∷ (tag.number, refl)
+      ∷ (tag.pi, sym u)
+      ∷ (tag.prefixExpression, sym u)
+      ∷ (tag.variable, sym (both (eqb (x .first) 0) (eqb (x .second) 0) u .1))
+      ∷ []
+      )
+      (x .tag)
+      (λ a. lt-leb (x .tag) tag.variable (past-first (tag.variable + 1) a refl) ∙ sym (past-keys a (wordsByTag x) false refl))
 
-  filled : (t : ℕ) → x .tag ≡ t → unused ≡ false → (t ≡ tag.address → ⊥) → (t ≡ tag.number → ⊥) → (t ≡ tag.variable → ⊥) → false ≡ nodeAllowed x
-  unfolding nodeAllowed
-  filled zero e u a n v = absurd (a refl)
-  filled (suc zero) e u a n v = rw (e, u)
-  filled (suc (suc zero)) e u a n v = rw (e, u)
-  filled (suc (suc (suc zero))) e u a n v = absurd (n refl)
-  filled (suc (suc (suc (suc zero)))) e u a n v = rw (e, u)
-  filled (suc (suc (suc (suc (suc zero))))) e u a n v = rw (e, u)
-  filled (suc (suc (suc (suc (suc (suc zero)))))) e u a n v = absurd (v refl)
-  filled (suc (suc (suc (suc (suc (suc (suc k))))))) e u a n v = past (omega arith)
-
+  -- and three tags a word that is used
   pub with-words : unused ≡ false → (x .tag ≡ tag.address → ⊥) → (x .tag ≡ tag.number → ⊥) → (x .tag ≡ tag.variable → ⊥) → false ≡ nodeAllowed x
-  with-words = filled (x .tag) refl
+  unfolding nodeAllowed caseOf
+  with-words u address number variable =
+      by-key (λ t. x .tag ≡ t → false ≡ caseOf t (wordsByTag x) false)
+      (
+      (tag.address, λ e. absurd (address e))
+      ∷ (tag.functionCall, λ e. sym u)
+      ∷ (tag.infixExpression, λ e. sym u)
+      ∷ (tag.number, λ e. absurd (number e))
+      ∷ (tag.pi, λ e. sym u)
+      ∷ (tag.prefixExpression, λ e. sym u)
+      ∷ (tag.variable, λ e. absurd (variable e))
+      ∷ []
+      )
+      (x .tag)
+      (λ a e. sym (past-keys a (wordsByTag x) false refl))
+      refl
 
 -- the nodes from row i on are allowed
 abbrev pub AllowedFrom : List ℕ → ℕ → Type 0

@@ -1,7 +1,7 @@
 -- A row's operators and its source's words as the code tests them. Assumes nothing.
-use Prim.Native.Nat.{ℕ, zero, suc, _+_, _≤_, _<_}
-use mathlib.Core.Bool.{Bool, true, false, cond, _&&_, _||_}
-use mathlib.Core.List.{List}
+use Prim.Native.Nat.{ℕ, _+_, _≤_, _<_}
+use mathlib.Core.Bool.{Bool, true, false, _&&_, _||_}
+use mathlib.Core.List.{List, [], _∷_}
 use mathlib.Core.Path.{_≡_, refl, sym}
 use native.Mathlib.Omega.{arith}
 use lib.Dec.{eqb, ltb, leb}
@@ -9,7 +9,9 @@ use borrow.Author.Tests.{leb-true, leb-false, lt-ltb, le-ltb, ne-eqb, eqb-true}
 use Rattle.tables.specs.Source as source
 use Rattle.tables.specs.declared.rows.Instruction.{Instruction}
 use Rattle.tables.specs.Cases.{caseOf}
-use Rattle.loader.specs.Instruction.{upTo, operatorsOf, sourceAllowed, formAllowed, operandWordsByFamily, operandsAllowed, instructionAllowed}
+use Rattle.tables.specs.First.{first, every}
+use Rattle.tables.proofs.Cases.{by-key, past-first}
+use Rattle.loader.specs.Instruction.{upTo, operatorsOf, sourceByForm, sourceAllowed, formAllowed, operandWordsByFamily, operandsAllowed, instructionAllowed}
 
 pub up-to : (x last : ℕ) → leb x last ≡ ltb x (upTo last)
 up-to x last = at (leb x last) refl
@@ -19,31 +21,23 @@ up-to x last = at (leb x last) refl
     at false e = let h : last < x = leb-false x last e in sym (le-ltb x (last + 1) (omega arith))
 
 module _ (x : Instruction) (o : Bool) where
-  -- by the form f
-  any : (f : ℕ) → x .«source_form» ≡ f
-      → (ltb f source.none && ((eqb f source.reference || eqb (x .«source_second») 0) && o)) ≡ (ltb f source.none && (sourceAllowed x && o))
-  unfolding sourceAllowed
-  any zero e = rw e
-  any (suc zero) e = rw e
-  any (suc (suc zero)) e = rw e
-  any (suc (suc (suc k))) e = rw (le-ltb (suc (suc (suc k))) 3 (omega arith))
-
   pub any-words : (ltb (x .«source_form») source.none && ((eqb (x .«source_form») source.reference || eqb (x .«source_second») 0) && o))
       ≡ (ltb (x .«source_form») source.none && (sourceAllowed x && o))
-  any-words = any (x .«source_form») refl
-
-  integral : (f : ℕ) → x .«source_form» ≡ f
-      → ((eqb f source.reference || (eqb f source.integerLiteral && eqb (x .«source_second») 0)) && o)
-      ≡ ((eqb f source.integerLiteral || eqb f source.reference) && (sourceAllowed x && o))
-  unfolding sourceAllowed
-  integral zero e = rw e
-  integral (suc zero) e = refl
-  integral (suc (suc zero)) e = rw e
-  integral (suc (suc (suc k))) e = rw (ne-eqb (suc (suc (suc k))) 0 (omega arith), ne-eqb (suc (suc (suc k))) 2 (omega arith))
+  unfolding sourceAllowed caseOf first every
+  any-words =
+      by-key (λ f. (ltb f source.none && ((eqb f source.reference || eqb (x .«source_second») 0) && o)) ≡ (ltb f source.none && (caseOf f (sourceByForm x) false && o)))
+      ((source.integerLiteral, refl) ∷ (source.realLiteral, refl) ∷ (source.reference, refl) ∷ (source.none, refl) ∷ [])
+      (x .«source_form»)
+      (λ a. rw (le-ltb (x .«source_form») source.none (past-first source.none a refl)))
 
   pub integral-words : ((eqb (x .«source_form») source.reference || (eqb (x .«source_form») source.integerLiteral && eqb (x .«source_second») 0)) && o)
       ≡ ((eqb (x .«source_form») source.integerLiteral || eqb (x .«source_form») source.reference) && (sourceAllowed x && o))
-  integral-words = integral (x .«source_form») refl
+  unfolding sourceAllowed caseOf
+  integral-words =
+      by-key (λ f. ((eqb f source.reference || (eqb f source.integerLiteral && eqb (x .«source_second») 0)) && o) ≡ ((eqb f source.integerLiteral || eqb f source.reference) && (caseOf f (sourceByForm x) false && o)))
+      ((source.integerLiteral, refl) ∷ (source.realLiteral, refl) ∷ (source.reference, refl) ∷ (source.none, refl) ∷ [])
+      (x .«source_form»)
+      (λ a. rw (ne-eqb (x .«source_form») source.integerLiteral (a .from source.integerLiteral refl), ne-eqb (x .«source_form») source.reference (a .from source.reference refl)))
 
   pub reference-words : (eqb (x .«source_form») source.reference && o) ≡ (eqb (x .«source_form») source.reference && (sourceAllowed x && o))
   unfolding sourceAllowed
@@ -62,16 +56,6 @@ module _ (x : Instruction) (o : Bool) where
           → (t && ((eqb (x .«source_first») 0 && eqb (x .«source_second») 0) && o)) ≡ (t && (sourceAllowed x && o))
       at true e = rw (eqb-true (x .«source_form») source.none e)
       at false e = refl
-
-same : (t : Bool) {a : Bool} → cond t a a ≡ a
-same true = refl
-same false = refl
-
--- from the frames on no family has a source
-pub form-past : (f form : ℕ) → 8 ≤ f → formAllowed f form ≡ eqb form source.none
-unfolding formAllowed
-form-past f form h =
-    rw (ne-eqb f 0 (omega arith), ne-eqb f 1 (omega arith), ne-eqb f 2 (omega arith), ne-eqb f 3 (omega arith), ne-eqb f 4 (omega arith), ne-eqb f 5 (omega arith), ne-eqb f 6 (omega arith), ne-eqb f 7 (omega arith), same (eqb f 10), same (eqb f 9), same (eqb f 8))
 
 -- a row of family f, as the match's arm for it tests it
 pub row-of : (nodes : List ℕ) (arguments : ℕ) (x : Instruction) {p q : Bool} (f : ℕ) → x .family ≡ f → p ≡ ltb (x .operator) (operatorsOf f)

@@ -1,6 +1,5 @@
 -- Laws that the proofs share, here and in the crates above.
 pub mod Ends
-pub mod Past
 pub mod Reaches
 pub mod WritesLaws
 pub mod Exchange

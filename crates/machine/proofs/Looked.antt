@@ -1,7 +1,8 @@
 -- Two operands looked at one after the other, and what then comes of a row: the one law of arithmetic, comparison, binary logic, exchange and store. Assumes nothing.
 use Prim.Native.Nat.{ℕ}
-use mathlib.Core.Bool.{Bool, true, false}
-use mathlib.Core.Path.{_≡_}
+use mathlib.Core.Bool.{Bool, true, false, not}
+use mathlib.Core.Path.{_≡_, sym, _∙_}
+use borrow.Author.Tests.{not-true, not-false}
 use Rattle.tables.specs.Refusal.{noRule}
 use Rattle.tables.specs.Outcome.{Outcome, ok, refuse, _>>=_, _>>_, need}
 
@@ -19,15 +20,15 @@ looked (both e h g) = rw (e, h, g)
 
 -- ---- what f tells
 
--- of the kinds: they have no rule, or they have one
-module _ {A : Type 0} {t : Bool} where
-  pub no-kinds : (s : Outcome A) → t ≡ false → (need t noRule >> s) ≡ refuse noRule
+-- of the kinds, as the code asked r of them: they have no rule, or they have one
+module _ {A : Type 0} {r t : Bool} where
+  pub no-kinds : (s : Outcome A) → r ≡ t → not r ≡ true → (need t noRule >> s) ≡ refuse noRule
   unfolding _>>_ need
-  no-kinds s e = rw e
+  no-kinds s e h = rw (sym e ∙ not-true r h)
 
-  pub kinds : {s o : Outcome A} → t ≡ true → s ≡ o → (need t noRule >> s) ≡ o
+  pub kinds : {s o : Outcome A} → r ≡ t → not r ≡ false → s ≡ o → (need t noRule >> s) ≡ o
   unfolding _>>_ need
-  kinds e h = rw (e, h)
+  kinds e h g = rw (sym e ∙ not-false r h, g)
 
 -- of a result: it is refused, or there is one
 module _ {A B : Type 0} {p : Outcome A} (f : A → Outcome B) where

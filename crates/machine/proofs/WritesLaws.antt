@@ -1,9 +1,8 @@
 -- Whatever the cells hold, a row that is no CALL writes to cells that are there, as many as its family has changes. Assumes nothing.
-use Prim.Native.Nat.{ℕ, zero, suc, _<_}
+use Prim.Native.Nat.{ℕ, _<_}
 use mathlib.Core.Bool.{Bool, true}
 use mathlib.Core.List.{List, [], _∷_}
 use mathlib.Core.Path.{_≡_, refl, subst}
-use native.Mathlib.Omega.{arith}
 use lib.ListN.{length}
 use lib.Dec.{eqb, ltb}
 use Rattle.words.specs.Kind.{real, integerLiteral, realLiteral}
@@ -15,6 +14,7 @@ use Rattle.tables.specs.Outcome.{Outcome, ok, refuse}
 use Rattle.tables.specs.Rows.{regionRows}
 use Rattle.tables.specs.Cells.{cellCount}
 use Rattle.tables.specs.declared.rows.Instruction.{Instruction}
+use Rattle.tables.proofs.Cases.{at-key, by-key, past-keys}
 use Rattle.loader.proofs.Loaded.{passed}
 use Rattle.journal.specs.declared.cells.Write.{Write}
 use Rattle.journal.specs.Each.{Each, none, also}
@@ -30,7 +30,6 @@ use Rattle.operands.proofs.Binds.{bound}
 use Rattle.operands.proofs.AddressLaws.{indexed-within}
 use Rattle.operands.proofs.Reaches.{Regions, Cells, names-within, addresses-within}
 use Rattle.operands.specs.Reach.{Laid}
-use Rattle.machine.proofs.Past.{at-key, past-keys}
 use Rattle.machine.proofs.Ends.{Ends, Any, fine, turned, bind, tested, either, gives, any}
 
 -- the cell of a write is one of the cells
@@ -98,33 +97,58 @@ module _ {regions : List ℕ} (laid : Laid regions) (cells : List ℕ) where
     unfolding familyOf
     picked m q h = subst (λ (o : Outcome (List Write)). Reaches m o) (at-key (families regions cells x n a) noWrites q) h
 
-    family-within : (f : ℕ) → x .family ≡ f → Targets f → Reaches (changesOf f) (familyOf regions cells x n a)
-    unfolding changesOf caseOf indexesFirst indexesSecond namesFirst operandsOf arithmeticOf comparisonOf logicOf unaryOf moveOf exchangeOf loadOf storeOf
-    family-within zero q t = picked _ q
-        (combined-within arithmeticKinds (arithmeticResult (x .operator)) (t .first refl))
-    family-within (suc zero) q t = picked _ q
-        (bind (any (readOf cells (a .second))) (λ l u. bind (any (sourceOf cells x (a .source))) (λ s u. tested noRule (comparisonKinds (l .kind) (s .kind)) tt (λ e.
-        once (t .first refl)))))
-    family-within (suc (suc zero)) q t = picked _ q
-        (combined-within logicKinds (logicResult (x .operator)) (t .first refl))
-    family-within (suc (suc (suc zero))) q t = picked _ q
-        (bind (any (readOf cells (a .first))) (λ d u. tested noRule (unaryKinds (x .operator) (d .kind)) tt (λ e. once (t .first refl))))
-    family-within (suc (suc (suc (suc zero)))) q t = picked _ q
-        (bind (any (sourceOf cells x (a .source))) (λ s u. put-within (a .first) s (t .first refl)))
-    family-within (suc (suc (suc (suc (suc zero))))) q t = picked _ q
-        (bind (any (readOf cells (a .first))) (λ d u. bind (any (readOf cells (a .second))) (λ e u.
-        fine (record { within = also (t .first refl) (single (t .second refl)); count = refl }))))
-    family-within (suc (suc (suc (suc (suc (suc zero)))))) q t = picked _ q
-        (bind (any (offsetOf cells (a .source))) (λ i u. bind (any (indexedOf regions (n .second) i)) (λ c u.
-        bind (any (readOf cells c)) (λ v u. once (t .first refl)))))
-    family-within (suc (suc (suc (suc (suc (suc (suc zero))))))) q t = picked _ q
-        (bind (any (offsetOf cells (a .second))) (λ i u. bind (any (sourceOf cells x (a .source))) (λ s u.
-        bind (reached (n .first) i (t .region refl) (indexedOf regions (n .first) i) refl) (λ c h. put-within c s h))))
-    family-within (suc (suc (suc (suc (suc (suc (suc (suc m)))))))) q t =
-        let f : ℕ = suc (suc (suc (suc (suc (suc (suc (suc m))))))) in
+    -- a row of family f
+    abbrev Row : ℕ → Type 0
+    Row f = x .family ≡ f → Targets f → Reaches (changesOf f) (familyOf regions cells x n a)
+
+    comparison-within : a .first < cellCount regions → Reaches 1 (comparisonOf cells x a)
+    unfolding comparisonOf
+    comparison-within h =
+        bind (any (readOf cells (a .second))) (λ l u. bind (any (sourceOf cells x (a .source))) (λ s u. tested noRule (comparisonKinds (l .kind) (s .kind)) tt (λ e. once h)))
+
+    unary-within : a .first < cellCount regions → Reaches 1 (unaryOf cells x a)
+    unfolding unaryOf
+    unary-within h = bind (any (readOf cells (a .first))) (λ d u. tested noRule (unaryKinds (x .operator) (d .kind)) tt (λ e. once h))
+
+    move-within : a .first < cellCount regions → Reaches 1 (moveOf cells x a)
+    unfolding moveOf
+    move-within h = bind (any (sourceOf cells x (a .source))) (λ s u. put-within (a .first) s h)
+
+    exchange-within : a .first < cellCount regions → a .second < cellCount regions → Reaches 2 (exchangeOf cells a)
+    unfolding exchangeOf
+    exchange-within h k =
+        bind (any (readOf cells (a .first))) (λ d u. bind (any (readOf cells (a .second))) (λ e u. fine (record { within = also h (single k); count = refl })))
+
+    load-within : a .first < cellCount regions → Reaches 1 (loadOf regions cells n a)
+    unfolding loadOf
+    load-within h =
+        bind (any (offsetOf cells (a .source))) (λ i u. bind (any (indexedOf regions (n .second) i)) (λ c u. bind (any (readOf cells c)) (λ v u. once h)))
+
+    store-within : n .first < regionRows regions → Reaches 1 (storeOf regions cells x n a)
+    unfolding storeOf
+    store-within h =
+        bind (any (offsetOf cells (a .second))) (λ i u. bind (any (sourceOf cells x (a .source))) (λ s u.
+        bind (reached (n .first) i h (indexedOf regions (n .first) i) refl) (λ c k. put-within c s k)))
+
+    family-within : (f : ℕ) → Row f
+    unfolding changesOf caseOf indexesFirst indexesSecond namesFirst operandsOf arithmeticOf logicOf
+    family-within f =
+        by-key Row
+        (
+        (family.arithmetic, λ q t. picked 1 q (combined-within arithmeticKinds (arithmeticResult (x .operator)) (t .first refl)))
+        ∷ (family.comparison, λ q t. picked 1 q (comparison-within (t .first refl)))
+        ∷ (family.binaryLogic, λ q t. picked 1 q (combined-within logicKinds (logicResult (x .operator)) (t .first refl)))
+        ∷ (family.unary, λ q t. picked 1 q (unary-within (t .first refl)))
+        ∷ (family.move, λ q t. picked 1 q (move-within (t .first refl)))
+        ∷ (family.exchange, λ q t. picked 2 q (exchange-within (t .first refl) (t .second refl)))
+        ∷ (family.load, λ q t. picked 1 q (load-within (t .first refl)))
+        ∷ (family.store, λ q t. picked 1 q (store-within (t .region refl)))
+        ∷ []
+        )
+        f
+        (λ past q t.
         picked (caseOf f changes 0) q
-        (rw (past-keys 8 f (families regions cells x n a) noWrites refl (omega arith), past-keys 8 f changes 0 refl (omega arith))
-        (fine (record { within = none; count = refl })))
+        (rw (past-keys past (families regions cells x n a) noWrites refl, past-keys past changes 0 refl) (fine (record { within = none; count = refl }))))
 
     -- they were found
     targets : Regions regions x n → Cells regions x a → Targets (x .family)

@@ -1,5 +1,5 @@
 -- What the typing rules say of the kinds that the machine meets: one computed test for each family over all codes, lifted to every code. Assumes nothing.
-use Prim.Native.Nat.{ℕ, zero, suc, _<_}
+use Prim.Native.Nat.{ℕ, _<_}
 use mathlib.Core.Bool.{Bool, true, false, not, _||_, _&&_}
 use mathlib.Core.Path.{_≡_, refl, ap}
 use mathlib.Core.List.{List, [], _∷_}
@@ -9,6 +9,9 @@ use lib.Dec.{eqb, ltb}
 use Rattle.words.specs.Kind.{widthOf}
 use Rattle.tables.specs.Cases.{caseOf}
 use Rattle.tables.specs.First.{first, every}
+use Rattle.tables.specs.Operator as operator
+use Rattle.tables.proofs.Cases.{by-key, past-first}
+use Rattle.loader.specs.Instruction.{upTo}
 use Rattle.loader.proofs.Loaded.{both}
 use Rattle.type_check.specs.Judgement.{Judgement, pass, passes}
 use Rattle.type_check.specs.Rule as T
@@ -83,13 +86,19 @@ logic-wants = given₂ T.logicRule logicWants refl
 
 -- NEG is of the kinds of 64 bits
 abbrev pub unaryWants : ℕ → ℕ → List Bool
-unaryWants operator d = declared d ∷ unaryKinds operator d ∷ (not (eqb operator 0) || eqb (widthOf d) 64) ∷ []
+unaryWants which d = declared d ∷ unaryKinds which d ∷ (not (eqb which operator.neg) || eqb (widthOf d) 64) ∷ []
 
-pub unary-wants : (d operator : ℕ) → Code 4 d → operator < 2 → T.unaryRule operator d ≡ pass → Trues (unaryWants operator d)
+pub unary-wants : (d which : ℕ) → Code 4 d → which < upTo operator.not → T.unaryRule which d ≡ pass → Trues (unaryWants which d)
 unfolding first every widthOf caseOf unaryKinds T.unaryRule
-unary-wants d zero c l = given₁ 4 (T.unaryRule 0) (unaryWants 0) refl d c
-unary-wants d (suc zero) c l = given₁ 4 (T.unaryRule 1) (unaryWants 1) refl d c
-unary-wants d (suc (suc n)) c l = absurd (omega arith)
+unary-wants d which c =
+    by-key (λ o. o < upTo operator.not → T.unaryRule o d ≡ pass → Trues (unaryWants o d))
+    (
+    (operator.neg, λ l. given₁ 4 (T.unaryRule operator.neg) (unaryWants operator.neg) refl d c)
+    ∷ (operator.not, λ l. given₁ 4 (T.unaryRule operator.not) (unaryWants operator.not) refl d c)
+    ∷ []
+    )
+    which
+    (λ past l e. absurd (omega (arith, past-first (upTo operator.not) past refl)))
 
 -- a source that is put into a cell fits as one that is compared
 abbrev pub moveWants : ℕ → ℕ → List Bool

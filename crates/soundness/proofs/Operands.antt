@@ -1,20 +1,20 @@
 -- Where a row's operands lie: its declared names have regions of the codes that the type check gives them, and its written indices cells of these kinds.
 -- And its source, by its form. Assumes nothing.
-use Prim.Native.Nat.{ℕ, _<_, _≤_}
-use mathlib.Core.Bool.{Bool, true, false, _||_}
+use Prim.Native.Nat.{ℕ, _<_}
+use mathlib.Core.Bool.{true}
 use mathlib.Core.List.{List}
-use mathlib.Core.Path.{_≡_, refl, ap}
+use mathlib.Core.Path.{_≡_}
 use native.Mathlib.Omega.{arith}
 use lib.Dec.{eqb}
 use borrow.Author.Tests.{eqb-true}
 use Rattle.tables.specs.declared.rows.Instruction.{Instruction}
 use Rattle.type_check.specs.Codes.{firstCode, secondCode, referenceCode}
-use Rattle.tables.specs.Names.{unused, Operands, operands, operandsByFamily, operandsOf, isName, namesFirst, indexesFirst, namesSecond, indexesSecond, namesSource}
+use Rattle.tables.specs.Source as source
+use Rattle.tables.specs.Names.{namesFirst, indexesFirst, namesSecond, indexesSecond, namesSource}
 use Rattle.operands.specs.Address.{namesOf, addressesOf}
 use Rattle.operands.specs.declared.address.NamedRegions.{NamedRegions}
 use Rattle.operands.specs.declared.address.Addresses.{Addresses}
 use Rattle.operands.proofs.Reaches.{first-named, second-named}
-use Rattle.machine.proofs.Past.{past-keys}
 use Rattle.machine.proofs.Ends.{Ends, Ruled, fine, bind}
 use Rattle.soundness.proofs.Regions.{RegionsFit, Region, Cell, named-ends, written-ends}
 
@@ -60,21 +60,6 @@ module _ {regions : List ℕ} (x : Instruction) where
 
 -- ---- the source, by its form
 
--- "2 binary logic (no real literal)"
-pub logic-form : (form : ℕ) → (eqb form 0 || eqb form 2) ≡ true → form < 3
-logic-form form e = at (eqb form 0) refl e
-  where
-    at : (t : Bool) → eqb form 0 ≡ t → (t || eqb form 2) ≡ true → form < 3
-    at true z h = omega (arith, eqb-true form 0 z)
-    at false z h = omega (arith, eqb-true form 2 h)
-
--- form 3 is no reference
-pub no-source : {A : Type 0} (form : ℕ) → eqb form 3 ≡ true → namesSource form ≡ true → A
-no-source form e h = absurd (omega (arith, eqb-true form 3 e, eqb-true form 2 h))
-
--- families 8 to 10 look nothing up
-pub past : (f : ℕ) → 8 ≤ f → (namesFirst f ≡ false) × (namesSecond f ≡ false)
-unfolding namesFirst namesSecond operandsOf
-past f h =
-    let e = past-keys 8 f operandsByFamily (operands unused unused) refl h in
-    (ap (λ (o : Operands). isName (o .first)) e, ap (λ (o : Operands). isName (o .second)) e)
+-- no source is no reference
+pub no-source : {A : Type 0} (form : ℕ) → eqb form source.none ≡ true → namesSource form ≡ true → A
+no-source form e h = absurd (omega (arith, eqb-true form source.none e, eqb-true form source.reference h))

@@ -1,12 +1,13 @@
 -- Each operator's result is a word of its kind, or the refusal is 15 or 16. Assumes nothing.
-use Prim.Native.Nat.{ℕ, zero, suc, _^_, _<_}
+use Prim.Native.Nat.{ℕ, _^_, _<_}
 use mathlib.Core.Bool.{Bool, true, false, not, cond, _||_}
+use mathlib.Core.List.{[], _∷_}
 use mathlib.Core.Path.{_≡_, refl}
 use native.Mathlib.Omega.{arith}
 use lib.Dec.{eqb, ltb}
 use lib.Pow.{pow-pos}
 use borrow.Author.Tests.{eqb-true, ltb-true}
-use Rattle.words.specs.Kind.{widthOf, fitsKind}
+use Rattle.words.specs.Kind.{bit, real, widthOf, fitsKind}
 use Rattle.words.specs.Fits as W
 use Rattle.words.specs.WidthLaws.{not-below}
 use Rattle.words.specs.Integer.{integerDivide, integerNegate}
@@ -19,9 +20,10 @@ use Rattle.words.specs.declared.width.Shifted.the-variants as S
 use Rattle.tables.specs.Refusal.{zeroDivisor, negativeShiftCount}
 use Rattle.tables.specs.Outcome.{ok}
 use Rattle.tables.specs.Cases.{caseOf}
+use Rattle.tables.specs.Operator as operator
+use Rattle.tables.proofs.Cases.{by-key, past-keys}
 use Rattle.loader.proofs.Loaded.{both}
 use Rattle.operators.specs.Operators.{quotientOutcome, integerResults, integerResult, realResults, realResult, arithmeticResult, comparisonTest, comparisonResult, shiftedOutcome, logicResults, logicResult, negated, unaryResults, unaryResult}
-use Rattle.machine.proofs.Past.{past-keys}
 use Rattle.machine.proofs.Ends.{Ends, Ruled, fine, turned, either}
 
 -- ---- arithmetic
@@ -30,32 +32,44 @@ quotient-ends : (a b : ℕ) (q : Quotient) → integerDivide a b ≡ q → Ends 
 quotient-ends a b (Q.Word r) e = fine (W.integerDivide-below a b r e)
 quotient-ends a b Q.ZeroDivisor e = turned {n = zeroDivisor} (omega arith)
 
-integer-ends : (operator a b : ℕ) → Ends Ruled (λ w. w < 2 ^ 64) (integerResult operator a b)
+integer-ends : (which a b : ℕ) → Ends Ruled (λ w. w < 2 ^ 64) (integerResult which a b)
 unfolding integerResult caseOf
-integer-ends zero a b = fine (W.integerAdd-below a b)
-integer-ends (suc zero) a b = fine (W.integerSubtract-below a b)
-integer-ends (suc (suc zero)) a b = quotient-ends a b (integerDivide a b) refl
-integer-ends (suc (suc (suc zero))) a b = fine (W.integerMultiply-below a b)
-integer-ends (suc (suc (suc (suc n)))) a b = rw (past-keys 4 (suc (suc (suc (suc n)))) (integerResults a b) (ok 0) refl (omega arith)) (fine (pow-pos 64))
+integer-ends which a b =
+    by-key (λ o. Ends Ruled (λ w. w < 2 ^ 64) (integerResult o a b))
+    (
+    (operator.add, fine (W.integerAdd-below a b))
+    ∷ (operator.subtract, fine (W.integerSubtract-below a b))
+    ∷ (operator.divide, quotient-ends a b (integerDivide a b) refl)
+    ∷ (operator.multiply, fine (W.integerMultiply-below a b))
+    ∷ []
+    )
+    which
+    (λ past. rw (past-keys past (integerResults a b) (ok 0) refl) (fine (pow-pos 64)))
 
-real-below : (operator a b : ℕ) → realResult operator a b < 2 ^ 64
+real-below : (which a b : ℕ) → realResult which a b < 2 ^ 64
 unfolding realResult caseOf
-real-below zero a b = W.realAdd-below a b
-real-below (suc zero) a b = W.realSubtract-below a b
-real-below (suc (suc zero)) a b = W.realDivide-below a b
-real-below (suc (suc (suc zero))) a b = W.realMultiply-below a b
-real-below (suc (suc (suc (suc n)))) a b = rw (past-keys 4 (suc (suc (suc (suc n)))) (realResults a b) 0 refl (omega arith)) (pow-pos 64)
+real-below which a b =
+    by-key (λ o. realResult o a b < 2 ^ 64)
+    (
+    (operator.add, W.realAdd-below a b)
+    ∷ (operator.subtract, W.realSubtract-below a b)
+    ∷ (operator.divide, W.realDivide-below a b)
+    ∷ (operator.multiply, W.realMultiply-below a b)
+    ∷ []
+    )
+    which
+    (λ past. rw (past-keys past (realResults a b) 0 refl) (pow-pos 64))
 
-pub arithmetic-ends : (operator kind a b : ℕ) → Ends Ruled (λ w. w < 2 ^ 64) (arithmeticResult operator kind a b)
+pub arithmetic-ends : (which kind a b : ℕ) → Ends Ruled (λ w. w < 2 ^ 64) (arithmeticResult which kind a b)
 unfolding arithmeticResult
-arithmetic-ends operator kind a b = either (eqb kind 3) (λ e. fine (real-below operator a b)) (λ e. integer-ends operator a b)
+arithmetic-ends which kind a b = either (eqb kind real) (λ e. fine (real-below which a b)) (λ e. integer-ends which a b)
 
 -- ---- comparison
 
 -- "Comparison writes a BIT"
-pub comparison-below : (operator kind a b : ℕ) → comparisonResult operator kind a b < 2 ^ widthOf 0
+pub comparison-below : (which kind a b : ℕ) → comparisonResult which kind a b < 2 ^ widthOf bit
 unfolding comparisonResult widthOf
-comparison-below operator kind a b = at (comparisonTest operator kind a b)
+comparison-below which kind a b = at (comparisonTest which kind a b)
   where
     at : (t : Bool) → cond t 1 0 < 2 ^ 1
     at true = omega arith
@@ -68,32 +82,43 @@ module _ (kind v s : ℕ) (f : fitsKind kind v ≡ true) where
   shifted-ends (S.Word r) h = fine (h r refl)
   shifted-ends S.NegativeCount h = turned {n = negativeShiftCount} (omega arith)
 
-  pub logic-ends : (operator : ℕ) → Ends Ruled (λ w. fitsKind kind w ≡ true) (logicResult operator kind v s)
+  pub logic-ends : (which : ℕ) → Ends Ruled (λ w. fitsKind kind w ≡ true) (logicResult which kind v s)
   unfolding logicResult caseOf fitsKind
-  logic-ends zero = fine (W.andAt-fits kind v f s)
-  logic-ends (suc zero) = fine (W.iorAt-fits kind v f s)
-  logic-ends (suc (suc zero)) = fine (W.xorAt-fits kind v f s)
-  logic-ends (suc (suc (suc zero))) = shifted-ends (shiftLeft (widthOf kind) v s) (λ r e. W.shiftLeft-fits kind v f s r e)
-  logic-ends (suc (suc (suc (suc zero)))) = shifted-ends (shiftRight (widthOf kind) v s) (λ r e. W.shiftRight-fits kind v f s r e)
-  logic-ends (suc (suc (suc (suc (suc zero))))) = shifted-ends (shiftRightArithmetic (widthOf kind) v s) (λ r e. W.shiftRightArithmetic-fits kind v f s r e)
-  logic-ends (suc (suc (suc (suc (suc (suc n)))))) =
+  logic-ends which =
+      by-key (λ o. Ends Ruled (λ w. fitsKind kind w ≡ true) (logicResult o kind v s))
+      (
+      (operator.and, fine (W.andAt-fits kind v f s))
+      ∷ (operator.ior, fine (W.iorAt-fits kind v f s))
+      ∷ (operator.xor, fine (W.xorAt-fits kind v f s))
+      ∷ (operator.shl, shifted-ends (shiftLeft (widthOf kind) v s) (W.shiftLeft-fits kind v f s))
+      ∷ (operator.shr, shifted-ends (shiftRight (widthOf kind) v s) (W.shiftRight-fits kind v f s))
+      ∷ (operator.ashr, shifted-ends (shiftRightArithmetic (widthOf kind) v s) (W.shiftRightArithmetic-fits kind v f s))
+      ∷ []
+      )
+      which
+      (λ past.
       let small = ltb-true kind 4 (both (ltb kind 4) _ f .0) in
-      rw (past-keys 6 (suc (suc (suc (suc (suc (suc n)))))) (logicResults (widthOf kind) v s) (ok 0) refl (omega arith))
-      (fine (W.fits-of kind 0 small (pow-pos (widthOf kind))))
+      rw (past-keys past (logicResults (widthOf kind) v s) (ok 0) refl) (fine (W.fits-of kind 0 small (pow-pos (widthOf kind)))))
 
 -- ---- unary
 
 negated-below : (kind v : ℕ) → negated kind v < 2 ^ 64
 unfolding negated
-negated-below kind v = at (eqb kind 3)
+negated-below kind v = at (eqb kind real)
   where
     at : (t : Bool) → cond t (realNegate v) (integerNegate v) < 2 ^ 64
     at true = W.realNegate-below v
     at false = W.integerNegate-below v
 
 -- NEG at 64 bits, NOT at any width
-pub unary-below : (operator kind v : ℕ) → (not (eqb operator 0) || eqb (widthOf kind) 64) ≡ true → unaryResult operator kind v < 2 ^ widthOf kind
+pub unary-below : (which kind v : ℕ) → (not (eqb which operator.neg) || eqb (widthOf kind) 64) ≡ true → unaryResult which kind v < 2 ^ widthOf kind
 unfolding unaryResult caseOf
-unary-below zero kind v e = rw (eqb-true (widthOf kind) 64 e) (negated-below kind v)
-unary-below (suc zero) kind v e = not-below (widthOf kind) v
-unary-below (suc (suc n)) kind v e = rw (past-keys 2 (suc (suc n)) (unaryResults kind v) 0 refl (omega arith)) (pow-pos (widthOf kind))
+unary-below which kind v =
+    by-key (λ o. (not (eqb o operator.neg) || eqb (widthOf kind) 64) ≡ true → unaryResult o kind v < 2 ^ widthOf kind)
+    (
+    (operator.neg, λ e. rw (eqb-true (widthOf kind) 64 e) (negated-below kind v))
+    ∷ (operator.not, λ e. not-below (widthOf kind) v)
+    ∷ []
+    )
+    which
+    (λ past e. rw (past-keys past (unaryResults kind v) 0 refl) (pow-pos (widthOf kind)))

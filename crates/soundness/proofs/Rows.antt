@@ -1,33 +1,36 @@
 -- A row that is no CALL and passes the type check, on cells of the declared kinds: no 18, and every write keeps the kinds. Assumes nothing.
-use Prim.Native.Nat.{ℕ, zero, suc, _^_, _<_}
+use Prim.Native.Nat.{ℕ, _^_, _<_}
 use mathlib.Core.Bool.{true, false, false≢true}
-use mathlib.Core.List.{List}
-use mathlib.Core.Path.{_≡_, refl, sym, _∙_, subst}
+use mathlib.Core.List.{List, [], _∷_}
+use mathlib.Core.Path.{_≡_, refl, sym, ap, _∙_, subst}
 use native.Mathlib.Omega.{arith}
 use lib.ListN.{length}
 use lib.Dec.{eqb}
 use borrow.Author.Tests.{ltb-true}
 use Rattle.tables.specs.Cases.{caseOf}
+use Rattle.tables.specs.Family as family
+use Rattle.tables.specs.Operator as operator
+use Rattle.tables.specs.Source as source
 use Rattle.tables.specs.Refusal.{unfitReply}
-use Rattle.loader.specs.Instruction.{operatorsOf, formAllowed}
-use Rattle.loader.proofs.SourceLaws.{form-past}
+use Rattle.tables.proofs.Cases.{at-key, by-key, past-keys}
+use Rattle.loader.specs.Instruction.{upTo, operatorsOf, formsByFamily, formAllowed}
 use Rattle.tables.specs.declared.rows.Instruction.{Instruction}
 use Rattle.type_check.specs.Judgement.{pass}
 use Rattle.type_check.specs.Rule.{ruleOf}
 use Rattle.type_check.specs.Codes.{firstCode, secondCode, referenceCode, operandCode, rowRule}
+use Rattle.type_check.proofs.NameLaws.{logic-form}
 use Rattle.type_check.proofs.CodeLaws.{Code, name-code, operand-code, reference-is, source-is}
 use Rattle.journal.specs.Each.{none}
-use Rattle.tables.specs.Names.{operandsOf, namesFirst, namesSecond, indexesFirst, indexesSecond, namesSource}
+use Rattle.tables.specs.Names.{unused, Operands, operands, operandsByFamily, operandsOf, isName, namesFirst, namesSecond, indexesFirst, indexesSecond, namesSource}
 use Rattle.operands.specs.Cells.{sourceOf}
 use Rattle.machine.specs.Families.{noWrites, families, familyOf}
 use Rattle.machine.specs.Outcome.{plainOutcome}
 use Rattle.operands.specs.declared.address.NamedRegions.{NamedRegions}
 use Rattle.operands.specs.declared.address.Addresses.{Addresses}
-use Rattle.machine.proofs.Past.{past-keys, at-key}
 use Rattle.machine.proofs.Ends.{Ends, Ruled, fine, bind, tested}
 use Rattle.operands.specs.Typed.{Typed}
 use Rattle.soundness.proofs.Regions.{RegionsFit}
-use Rattle.soundness.proofs.Operands.{Declared, Placed, names-ends, addresses-ends, logic-form, no-source, past}
+use Rattle.soundness.proofs.Operands.{Declared, Placed, names-ends, addresses-ends, no-source}
 use Rattle.soundness.proofs.Codes as C
 use Rattle.soundness.proofs.Families as F
 use Rattle.soundness.proofs.Values.{Holds, Keeps, source-ends}
@@ -39,7 +42,7 @@ pub record Accepted (regions : List ℕ) (x : Instruction) : Type 0 where
   pub operator : x .operator < operatorsOf (x .family)
   pub form : formAllowed (x .family) (x .«source_form») ≡ true
   pub word : x .«source_first» < 2 ^ 64
-  pub rule : x .family < 8 → rowRule regions x ≡ pass
+  pub rule : eqb (x .family) family.frame ≡ false → rowRule regions x ≡ pass
 
 -- ---- the row
 
@@ -75,8 +78,8 @@ module _ {regions cells : List ℕ} (typed : Typed regions cells) (x : Instructi
   sourced h q = rw (reference-is regions x q) at (below s h)
 
   -- and read
-  source : {f : ℕ} {n : NamedRegions} {a : Addresses} → x .«source_form» < 3 → Placed regions x f n a → Ends Ruled (Holds s) (sourceOf cells x (a .source))
-  source {a = a} h p = source-ends typed x (a .source) (k .word) h (p .source)
+  source-read : {f : ℕ} {n : NamedRegions} {a : Addresses} → x .«source_form» < source.none → Placed regions x f n a → Ends Ruled (Holds s) (sourceOf cells x (a .source))
+  source-read {a = a} h p = source-ends typed x (a .source) (k .word) h (p .source)
 
   -- what a row of family f does
   keyed : (n : NamedRegions) (a : Addresses) {f : ℕ} → x .family ≡ f → Keeps regions (caseOf f (families regions cells x n a) noWrites)
@@ -85,62 +88,115 @@ module _ {regions cells : List ℕ} (typed : Typed regions cells) (x : Instructi
   keyed n a q h = subst (Keeps regions) (at-key (families regions cells x n a) noWrites q) h
 
   -- by the family: "18 names" and "18 row's cells", "18 cell reached" are not met where its rule passes
-  ready : (f : ℕ) → x .family ≡ f → (f < 8 → ruleOf f (x .operator) d e s ≡ pass) → Ready f
-  unfolding ruleOf caseOf namesFirst namesSecond indexesFirst indexesSecond operandsOf formAllowed operatorsOf
-  ready zero q h =
-      let w = C.arithmetic-wants d s dc sc (h (omega arith)) in
-      let l = ltb-true _ 3 (rw q at (k .form)) in (
+  abbrev Row : ℕ → Type 0
+  Row f = x .family ≡ f → (eqb f family.frame ≡ false → ruleOf f (x .operator) d e s ≡ pass) → Ready f
+
+  arithmetic-row : Row family.arithmetic
+  unfolding ruleOf caseOf operandsOf namesSecond indexesFirst formAllowed
+  arithmetic-row q h =
+      let w = C.arithmetic-wants d s dc sc (h refl) in
+      let l = ltb-true _ source.none (rw q at (k .form)) in (
         record { first = λ t. below d (w .0); second = λ t. absurd (false≢true t); source = sourced (w .1 .0) },
-        λ n a p. keyed n a q (F.arithmetic-sound typed x n a d e s (p .first refl) (source l p) w),
+        λ n a p. keyed n a q (F.arithmetic-sound typed x n a d e s (p .first refl) (source-read l p) w),
       )
-  ready (suc zero) q h =
-      let w = C.comparison-wants d e s dc ec sc (h (omega arith)) in
-      let l = ltb-true _ 3 (rw q at (k .form)) in (
+
+  comparison-row : Row family.comparison
+  unfolding ruleOf caseOf operandsOf indexesFirst indexesSecond formAllowed
+  comparison-row q h =
+      let w = C.comparison-wants d e s dc ec sc (h refl) in
+      let l = ltb-true _ source.none (rw q at (k .form)) in (
         record { first = λ t. below d (w .0); second = λ t. below e (w .1 .0); source = sourced (w .1 .1 .0) },
-        λ n a p. keyed n a q (F.comparison-sound typed x n a d e s (p .first refl) (p .second refl) (source l p) w),
+        λ n a p. keyed n a q (F.comparison-sound typed x n a d e s (p .first refl) (p .second refl) (source-read l p) w),
       )
-  ready (suc (suc zero)) q h =
-      let w = C.logic-wants d s dc sc (h (omega arith)) in
+
+  logic-row : Row family.binaryLogic
+  unfolding ruleOf caseOf operandsOf namesSecond indexesFirst formAllowed
+  logic-row q h =
+      let w = C.logic-wants d s dc sc (h refl) in
       let l = logic-form (x .«source_form») (rw q at (k .form)) in (
         record { first = λ t. below d (w .0); second = λ t. absurd (false≢true t); source = sourced (w .1 .0) },
-        λ n a p. keyed n a q (F.logic-sound typed x n a d e s (p .first refl) (source l p) w),
+        λ n a p. keyed n a q (F.logic-sound typed x n a d e s (p .first refl) (source-read l p) w),
       )
-  ready (suc (suc (suc zero))) q h =
-      let o : x .operator < 2 = rw q at (k .operator) in
-      let w = C.unary-wants d (x .operator) dc o (h (omega arith)) in (
+
+  unary-row : Row family.unary
+  unfolding ruleOf caseOf operandsOf namesSecond indexesFirst formAllowed operatorsOf
+  unary-row q h =
+      let o : x .operator < upTo operator.not = rw q at (k .operator) in
+      let w = C.unary-wants d (x .operator) dc o (h refl) in (
         record { first = λ t. below d (w .0); second = λ t. absurd (false≢true t); source = no-source (x .«source_form») (rw q at (k .form)) },
         λ n a p. keyed n a q (F.unary-sound typed x n a d e s (p .first refl) w),
       )
-  ready (suc (suc (suc (suc zero)))) q h =
-      let w = C.move-wants d s dc sc (h (omega arith)) in
-      let l = ltb-true _ 3 (rw q at (k .form)) in (
+
+  move-row : Row family.move
+  unfolding ruleOf caseOf operandsOf namesSecond indexesFirst formAllowed
+  move-row q h =
+      let w = C.move-wants d s dc sc (h refl) in
+      let l = ltb-true _ source.none (rw q at (k .form)) in (
         record { first = λ t. below d (w .0); second = λ t. absurd (false≢true t); source = sourced (w .1 .0) },
-        λ n a p. keyed n a q (F.move-sound typed x n a d e s (p .first refl) (source l p) w),
+        λ n a p. keyed n a q (F.move-sound typed x n a d e s (p .first refl) (source-read l p) w),
       )
-  ready (suc (suc (suc (suc (suc zero))))) q h =
-      let w = C.exchange-wants d e dc ec (h (omega arith)) in (
+
+  exchange-row : Row family.exchange
+  unfolding ruleOf caseOf operandsOf indexesFirst indexesSecond formAllowed
+  exchange-row q h =
+      let w = C.exchange-wants d e dc ec (h refl) in (
         record { first = λ t. below d (w .0); second = λ t. below e (w .1 .0); source = no-source (x .«source_form») (rw q at (k .form)) },
         λ n a p. keyed n a q (F.exchange-sound typed x n a d e s (p .first refl) (p .second refl) w),
       )
-  ready (suc (suc (suc (suc (suc (suc zero)))))) q h =
-      let w = C.load-wants d e s dc ec sc (h (omega arith)) in
+
+  load-row : Row family.load
+  unfolding ruleOf caseOf operandsOf namesSecond indexesFirst formAllowed
+  load-row q h =
+      let w = C.load-wants d e s dc ec sc (h refl) in
       let z : namesSource (x .«source_form») ≡ true = rw q at (k .form) in (
         record { first = λ t. below d (w .0); second = λ t. below e (w .1 .0); source = sourced (w .1 .1 .0) },
         λ n a p. keyed n a q (F.load-sound typed x n a d e s (p .first refl) (p .named .second refl) (rw (reference-is regions x z) (p .source z)) w),
       )
-  ready (suc (suc (suc (suc (suc (suc (suc zero))))))) q h =
-      let w = C.store-wants d e s dc ec sc (h (omega arith)) in
-      let l = ltb-true _ 3 (rw q at (k .form)) in (
+
+  store-row : Row family.store
+  unfolding ruleOf caseOf operandsOf namesFirst indexesSecond formAllowed
+  store-row q h =
+      let w = C.store-wants d e s dc ec sc (h refl) in
+      let l = ltb-true _ source.none (rw q at (k .form)) in (
         record { first = λ t. below d (w .0); second = λ t. below e (w .1 .0); source = sourced (w .1 .1 .0) },
-        λ n a p. keyed n a q (F.store-sound typed x n a d e s (p .named .first refl) (p .second refl) (source l p) w),
-      )
-  ready (suc (suc (suc (suc (suc (suc (suc (suc m)))))))) q h =
-      let (a, b) = past (suc (suc (suc (suc (suc (suc (suc (suc m)))))))) (omega arith) in (
-        record { first = λ t. absurd (false≢true (sym a ∙ t)); second = λ t. absurd (false≢true (sym b ∙ t)); source = no-source (x .«source_form») (sym (form-past (x .family) (x .«source_form») (omega arith)) ∙ k .form) },
-        λ n a p. keyed n a q (rw (past-keys 8 (suc (suc (suc (suc (suc (suc (suc (suc m)))))))) (families regions cells x n a) noWrites refl (omega arith)) (fine none)),
+        λ n a p. keyed n a q (F.store-sound typed x n a d e s (p .named .first refl) (p .second refl) (source-read l p) w),
       )
 
-  rule : x .family < 8 → ruleOf (x .family) (x .operator) d e s ≡ pass
+  -- a family with no operands: nothing is looked up, and nothing changes
+  idle : (f : ℕ) → operandsOf f ≡ operands unused unused → formAllowed f (x .«source_form») ≡ eqb (x .«source_form») source.none
+      → ((n : NamedRegions) (a : Addresses) → caseOf f (families regions cells x n a) noWrites ≡ noWrites) → Row f
+  unfolding namesFirst namesSecond
+  idle f unnamed form still q h =
+      let first = ap (λ (o : Operands). isName (o .first)) unnamed in
+      let second = ap (λ (o : Operands). isName (o .second)) unnamed in (
+        record { first = λ t. absurd (false≢true (sym first ∙ t)); second = λ t. absurd (false≢true (sym second ∙ t)); source = no-source (x .«source_form») (sym form ∙ (rw q at (k .form))) },
+        λ n a p. keyed n a q (rw (still n a) (fine none)),
+      )
+
+  ready : (f : ℕ) → Row f
+  unfolding caseOf operandsOf formAllowed
+  ready f =
+      by-key Row
+      (
+      (family.arithmetic, arithmetic-row)
+      ∷ (family.comparison, comparison-row)
+      ∷ (family.binaryLogic, logic-row)
+      ∷ (family.unary, unary-row)
+      ∷ (family.move, move-row)
+      ∷ (family.exchange, exchange-row)
+      ∷ (family.load, load-row)
+      ∷ (family.store, store-row)
+      ∷ (family.frame, idle family.frame refl refl (λ n a. refl))
+      ∷ (family.call, idle family.call refl refl (λ n a. refl))
+      ∷ (family.other, idle family.other refl refl (λ n a. refl))
+      ∷ []
+      )
+      f
+      (λ past.
+      idle f (past-keys past operandsByFamily (operands unused unused) refl) (past-keys past (formsByFamily (x .«source_form»)) (eqb (x .«source_form») source.none) refl)
+      (λ n a. past-keys past (families regions cells x n a) noWrites refl))
+
+  rule : eqb (x .family) family.frame ≡ false → ruleOf (x .family) (x .operator) d e s ≡ pass
   unfolding rowRule
   rule l = rw (source-is regions x (k .form)) at (k .rule l)
 

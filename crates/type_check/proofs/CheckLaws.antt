@@ -6,8 +6,9 @@ use mathlib.Core.List.{List}
 use mathlib.Core.Logic.{⊎-elim}
 use mathlib.Core.Path.{_≡_, refl, sym, ap, _∙_}
 use native.Mathlib.Omega.{arith}
-use borrow.Author.Tests.{eq-eqb, ne-eqb}
+use borrow.Author.Tests.{eqb-false, eq-eqb, ne-eqb}
 use lib.Dec.{eqb}
+use Rattle.tables.specs.Family as family
 use Rattle.tables.specs.Tables.{Tables}
 use Rattle.tables.specs.Rows.{instructionRows, instructionAt}
 use Rattle.tables.specs.declared.rows.Instruction.{Instruction}
@@ -28,24 +29,24 @@ loaded-frames l = record { row = λ k h. record { inside = frame-inside l k h } 
 
 module _ (regions nodes : List ℕ) (x : Instruction) where
   -- a row that is no frame, by its rule
-  pub row-judgement : (x .family ≡ 8 → ⊥) → judgementOf regions nodes x ≡ rowRule regions x
+  pub row-judgement : (x .family ≡ family.frame → ⊥) → judgementOf regions nodes x ≡ rowRule regions x
   unfolding judgementOf
   row-judgement ne = rw (ne-eqb _ _ ne)
 
-  pub frame-judgement : x .family ≡ 8 → judgementOf regions nodes x ≡ frameRule regions nodes x
+  pub frame-judgement : x .family ≡ family.frame → judgementOf regions nodes x ≡ frameRule regions nodes x
   unfolding judgementOf
   frame-judgement e = rw (eq-eqb _ _ e)
 
   -- the rule of family k
-  pub family-judgement : (k : ℕ) → x .family ≡ k → eqb k 8 ≡ false → judgementOf regions nodes x ≡ ruleOf k (x .operator) (firstCode regions x) (secondCode regions x) (cond (eqb k 6) (referenceCode regions x) (operandCode regions x))
+  pub family-judgement : (k : ℕ) → x .family ≡ k → eqb k family.frame ≡ false → judgementOf regions nodes x ≡ ruleOf k (x .operator) (firstCode regions x) (secondCode regions x) (cond (eqb k family.load) (referenceCode regions x) (operandCode regions x))
   unfolding judgementOf rowRule sourceCode
-  family-judgement k e f = rw (ap (λ (n : ℕ). eqb n 8) e ∙ f, ap (λ (n : ℕ). eqb n 6) e, e)
+  family-judgement k e f = rw (ap (λ (n : ℕ). eqb n family.frame) e ∙ f, ap (λ (n : ℕ). eqb n family.load) e, e)
 
   abbrev pub ruled : List (ℕ × Judgement)
   ruled = rules (x .operator) (firstCode regions x) (secondCode regions x) (sourceCode regions x)
 
   -- "Families 9 and 10 pass."
-  pub other-judgement : (x .family ≡ 8 → ⊥) → Missed (Unit {0}) ruled (x .family) → judgementOf regions nodes x ≡ pass
+  pub other-judgement : (x .family ≡ family.frame → ⊥) → Missed (Unit {0}) ruled (x .family) → judgementOf regions nodes x ≡ pass
   unfolding rowRule ruleOf
   other-judgement ne m = row-judgement ne ∙ sym (other-arm ruled pass (x .family) m)
 
@@ -93,5 +94,5 @@ module _ (regions nodes instructions : List ℕ) where
     row-passes = passes k (judgementOf regions nodes (instructionAt instructions k)) not-error
 
     -- a row that is no frame by its rule, at its operands' codes
-    pub rule-passes : instructionAt instructions k .family < 8 → rowRule regions (instructionAt instructions k) ≡ pass
-    rule-passes h = sym (row-judgement regions nodes (instructionAt instructions k) (λ e. omega arith)) ∙ row-passes
+    pub rule-passes : eqb (instructionAt instructions k .family) family.frame ≡ false → rowRule regions (instructionAt instructions k) ≡ pass
+    rule-passes h = sym (row-judgement regions nodes (instructionAt instructions k) (eqb-false _ family.frame h)) ∙ row-passes

@@ -9,6 +9,7 @@ use borrow.Author.Tests.{ltb-true, ltb-false, eqb-true, eqb-false, eq-eqb, ne-eq
 use lib.Dec.{eqb}
 use Rattle.tables.specs.Cases.{caseOf}
 use Rattle.tables.specs.First.{every}
+use Rattle.tables.specs.Family as family
 use Rattle.tables.specs.Lookup.{lookupRegion}
 use Rattle.tables.specs.Names.{namesSource}
 use Rattle.tables.specs.Rows.{regionKind}
@@ -141,8 +142,8 @@ module _ (regions : List ℕ) (x : Instruction) where
   -- "6 load (.. source = offset reference)": its code is an operand's too
   pub source-is : formAllowed (x .family) (x .«source_form») ≡ true → sourceCode regions x ≡ operandCode regions x
   unfolding sourceCode formAllowed caseOf
-  source-is h = at (eqb (x .family) 6) refl
+  source-is h = at (eqb (x .family) family.load) refl
     where
-      at : (t : Bool) → eqb (x .family) 6 ≡ t → cond t (referenceCode regions x) (operandCode regions x) ≡ operandCode regions x
-      at true e = sym (reference-is (rw (eqb-true (x .family) 6 e) at h))
+      at : (t : Bool) → eqb (x .family) family.load ≡ t → cond t (referenceCode regions x) (operandCode regions x) ≡ operandCode regions x
+      at true e = sym (reference-is (rw (eqb-true (x .family) family.load e) at h))
       at false e = refl

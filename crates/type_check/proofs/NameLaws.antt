@@ -1,5 +1,5 @@
 -- A row's judgement depends on the codes of the names that the row uses, and on no other declaration. Assumes nothing.
-use Prim.Native.Nat.{ℕ, zero, suc, _+_, _<_}
+use Prim.Native.Nat.{ℕ, _+_, _<_}
 use mathlib.Core.Bool.{Bool, true, false, cond, _||_}
 use mathlib.Core.List.{List, [], _∷_}
 use mathlib.Core.Logic.{⊎-elim}
@@ -8,11 +8,14 @@ use native.Mathlib.Omega.{arith}
 use borrow.Author.Tests.{ltb-true, eqb-true, eqb-false, eq-eqb}
 use lib.Dec.{eqb}
 use Rattle.tables.specs.Cases.{caseOf}
-use Rattle.tables.specs.First.{first}
+use Rattle.tables.specs.Family as family
+use Rattle.tables.specs.Source as source
+use Rattle.tables.specs.NodeTag as tag
 use Rattle.tables.specs.Names.{operandsOf, namesFirst, namesSecond, namesSource}
 use Rattle.tables.specs.Rows.{nodeAt}
 use Rattle.tables.specs.declared.rows.Node.{Node}
 use Rattle.tables.specs.declared.rows.Instruction.{Instruction}
+use Rattle.tables.proofs.Cases.{by-key, past-keys}
 use Rattle.tables.proofs.FirstLaws.{never}
 use Rattle.loader.specs.Instruction.{formAllowed}
 use Rattle.type_check.specs.Judgement.{pass}
@@ -26,92 +29,45 @@ use Rattle.type_check.specs.declared.frame.TreeVerdict.the-variants.{All
 use Rattle.type_check.proofs.CodeLaws.{source-is}
 use Rattle.type_check.proofs.Searches.{searched, same-search}
 
--- the same keys, and the same value at the key that x is
-abbrev Alike : {A : Type 0} → ℕ → List (ℕ × A) → List (ℕ × A) → Type 0
-Alike x [] [] = Unit {0}
-Alike x [] (d ∷ ds) = ⊥
-Alike x (c ∷ cs) [] = ⊥
-Alike x (c ∷ cs) (d ∷ ds) = (c .0 ≡ d .0) × ((x ≡ c .0 → c .1 ≡ d .1) × Alike x cs ds)
-
-same-case : {A : Type 0} (x : ℕ) (cs ds : List (ℕ × A)) (other : A) → Alike x cs ds → caseOf x cs other ≡ caseOf x ds other
-unfolding caseOf
-same-case x [] [] other a = refl
-same-case x [] (d ∷ ds) other a = absurd a
-same-case x (c ∷ cs) [] other a = absurd a
-same-case x (c ∷ cs) (d ∷ ds) other a = rw (← a .0, same-case x cs ds other (a .1 .1)) (at (eqb x (c .0)) refl)
-  where
-    at : (t : Bool) → eqb x (c .0) ≡ t → cond t (c .1) (caseOf x ds other) ≡ cond t (d .1) (caseOf x ds other)
-    at true e = a .1 .0 (eqb-true x (c .0) e)
-    at false e = refl
-
 -- ---- a row that is no frame
 
--- a source that is a literal or a reference
-abbrev Sourced : ℕ → Type 0
-Sourced form = form < 3
-
-logic-form : (form : ℕ) → (eqb form 0 || eqb form 2) ≡ true → Sourced form
-logic-form form e = at (eqb form 0) refl e
+-- "2 binary logic (no real literal)"
+pub logic-form : (form : ℕ) → (eqb form source.integerLiteral || eqb form source.reference) ≡ true → form < source.none
+logic-form form e = at (eqb form source.integerLiteral) refl e
   where
-    at : (t : Bool) → eqb form 0 ≡ t → (t || eqb form 2) ≡ true → Sourced form
-    at true z h = omega (arith, eqb-true form 0 z)
-    at false z h = omega (arith, eqb-true form 2 h)
+    at : (t : Bool) → eqb form source.integerLiteral ≡ t → (t || eqb form source.reference) ≡ true → form < source.none
+    at true z h = omega (arith, eqb-true form source.integerLiteral z)
+    at false z h = omega (arith, eqb-true form source.reference h)
 
-reference-form : (form : ℕ) → eqb form 2 ≡ true → Sourced form
-reference-form form e = omega (arith, eqb-true form 2 e)
+reference-form : (form : ℕ) → namesSource form ≡ true → form < source.none
+reference-form form e = omega (arith, eqb-true form source.reference e)
 
 -- the rule of a family looks only at the operands that take part in it
-pub same-rule : (family operator form : ℕ) {d d′ e e′ s s′ : ℕ} → formAllowed family form ≡ true → (namesFirst family ≡ true → d ≡ d′) → (namesSecond family ≡ true → e ≡ e′) → (form < 3 → s ≡ s′)
-    → ruleOf family operator d e s ≡ ruleOf family operator d′ e′ s′
-unfolding ruleOf formAllowed namesFirst namesSecond operandsOf caseOf
-same-rule family operator form {d} {d′} {e} {e′} {s} {s′} a f g h =
-    same-case family (rules operator d e s) (rules operator d′ e′ s′) pass ((
-      refl,
+module _ (operator form d d′ e e′ s s′ : ℕ) where
+  abbrev pub Same : ℕ → Type 0
+  Same f = formAllowed f form ≡ true → (namesFirst f ≡ true → d ≡ d′) → (namesSecond f ≡ true → e ≡ e′) → (form < source.none → s ≡ s′)
+      → ruleOf f operator d e s ≡ ruleOf f operator d′ e′ s′
+
+  pub same-rule : (f : ℕ) → Same f
+  unfolding ruleOf formAllowed namesFirst namesSecond operandsOf caseOf
+  same-rule f =
+      by-key Same
       (
-        λ q. rw (f (rw q), h (ltb-true form 3 (rw q at a))),
-        (
-          refl,
-          (
-            λ q. rw (f (rw q), g (rw q), h (ltb-true form 3 (rw q at a))),
-            (
-              refl,
-              (
-                λ q. rw (f (rw q), h (logic-form form (rw q at a))),
-                (
-                  refl,
-                  (
-                    λ q. rw (f (rw q)),
-                    (
-                      refl,
-                      (
-                        λ q. rw (f (rw q), h (ltb-true form 3 (rw q at a))),
-                        (
-                          refl,
-                          (
-                            λ q. rw (f (rw q), g (rw q)),
-                            (
-                              refl,
-                              (
-                                λ q. rw (f (rw q), g (rw q), h (reference-form form (rw q at a))),
-                                (refl, (λ q. rw (f (rw q), g (rw q), h (ltb-true form 3 (rw q at a))), tt)),
-                              ),
-                            ),
-                          ),
-                        ),
-                      ),
-                    ),
-                  ),
-                ),
-              ),
-            ),
-          ),
-        ),
-      ),
-    )
-    )
+      (family.arithmetic, λ a p q r. rw (p refl, r (ltb-true form source.none a)))
+      ∷ (family.comparison, λ a p q r. rw (p refl, q refl, r (ltb-true form source.none a)))
+      ∷ (family.binaryLogic, λ a p q r. rw (p refl, r (logic-form form a)))
+      ∷ (family.unary, λ a p q r. rw (p refl))
+      ∷ (family.move, λ a p q r. rw (p refl, r (ltb-true form source.none a)))
+      ∷ (family.exchange, λ a p q r. rw (p refl, q refl))
+      ∷ (family.load, λ a p q r. rw (p refl, q refl, r (reference-form form a)))
+      ∷ (family.store, λ a p q r. rw (p refl, q refl, r (ltb-true form source.none a)))
+      ∷ []
+      )
+      f
+      (λ past a p q r. past-keys past (rules operator d e s) pass refl ∙ sym (past-keys past (rules operator d′ e′ s′) pass refl))
 
 module _ (regions regions′ : List ℕ) (x : Instruction) (allowed : formAllowed (x .family) (x .«source_form») ≡ true) where
-  same-source : (namesSource (x .«source_form») ≡ true → referenceCode regions x ≡ referenceCode regions′ x) → x .«source_form» < 3 → sourceCode regions x ≡ sourceCode regions′ x
+  same-source : (namesSource (x .«source_form») ≡ true → referenceCode regions x ≡ referenceCode regions′ x) → x .«source_form» < source.none → sourceCode regions x ≡ sourceCode regions′ x
   unfolding operandCode caseOf
   same-source h l = source-is regions x allowed ∙ at (eqb (x .«source_form») 0) (eqb (x .«source_form») 1) refl refl ∙ sym (source-is regions′ x allowed)
     where
@@ -145,13 +101,13 @@ module _ (regions regions′ : List ℕ) (x : Instruction) where
   pub same-operands : formAllowed (x .family) (x .«source_form») ≡ true → ((name : ℕ) → operandNamed x name ≡ true → codeOf regions name ≡ codeOf regions′ name) → rowRule regions x ≡ rowRule regions′ x
   unfolding rowRule
   same-operands a h =
-      same-rule (x .family) (x .operator) (x .«source_form») a (λ u. h _ (first-named x u)) (λ u. h _ (second-named x u))
+      same-rule (x .operator) (x .«source_form») _ _ _ _ _ _ (x .family) a (λ u. h _ (first-named x u)) (λ u. h _ (second-named x u))
       (same-source regions regions′ x a (λ v. h _ (source-named x v)))
 
 -- ---- a frame
 
 -- an address in the expression is named
-address-named : (nodes : List ℕ) (x : Instruction) (k : ℕ) → k < x .«first_index» → nodeAt nodes (x .«first_name» + k) .tag ≡ 0 → nodeNamed nodes x (nodeAt nodes (x .«first_name» + k) .first) ≡ true
+address-named : (nodes : List ℕ) (x : Instruction) (k : ℕ) → k < x .«first_index» → nodeAt nodes (x .«first_name» + k) .tag ≡ tag.address → nodeNamed nodes x (nodeAt nodes (x .«first_name» + k) .first) ≡ true
 unfolding nodeNamed
 address-named nodes x k l t =
     ⊎-elim (λ h. h .is)
@@ -162,11 +118,14 @@ address-named nodes x k l t =
     (searched _ _ _ 0 (x .«first_index»))
 
 module _ (regions regions′ nodes : List ℕ) (x : Instruction) where
-  pub same-node : (node : Node) → (node .tag ≡ 0 → codeOf regions (node .first) ≡ codeOf regions′ (node .first)) → nodeVerdict regions node ≡ nodeVerdict regions′ node
-  unfolding nodeVerdict
+  pub same-node : (node : Node) → (node .tag ≡ tag.address → codeOf regions (node .first) ≡ codeOf regions′ (node .first)) → nodeVerdict regions node ≡ nodeVerdict regions′ node
+  unfolding nodeVerdict caseOf
   same-node node h =
-      same-case (node .tag) (nodeVerdicts regions node) (nodeVerdicts regions′ node) Real
-      (refl, (λ t. ap addressRule (h t), (refl, (λ t. refl, (refl, (λ t. refl, tt))))))
+      by-key (λ t. node .tag ≡ t → caseOf t (nodeVerdicts regions node) Real ≡ caseOf t (nodeVerdicts regions′ node) Real)
+      ((tag.address, λ e. ap addressRule (h e)) ∷ (tag.number, λ e. refl) ∷ (tag.variable, λ e. refl) ∷ [])
+      (node .tag)
+      (λ past e. past-keys past (nodeVerdicts regions node) Real refl ∙ sym (past-keys past (nodeVerdicts regions′ node) Real refl))
+      refl
 
   same-frame : ((name : ℕ) → nodeNamed nodes x name ≡ true → codeOf regions name ≡ codeOf regions′ name) → frameRule regions nodes x ≡ frameRule regions′ nodes x
   unfolding frameRule treeVerdict
@@ -180,7 +139,7 @@ module _ (regions regions′ nodes : List ℕ) (x : Instruction) where
   -- a row's judgement depends on the codes of the names that it uses, where its form is one that the loader allows
   pub same-judgement : formAllowed (x .family) (x .«source_form») ≡ true → ((name : ℕ) → rowNamed nodes x name ≡ true → codeOf regions name ≡ codeOf regions′ name) → judgementOf regions nodes x ≡ judgementOf regions′ nodes x
   unfolding judgementOf rowNamed
-  same-judgement a h = at (eqb (x .family) 8) h
+  same-judgement a h = at (eqb (x .family) family.frame) h
     where
       at : (t : Bool) → ((name : ℕ) → cond t (nodeNamed nodes x name) (operandNamed x name) ≡ true → codeOf regions name ≡ codeOf regions′ name)
           → cond t (frameRule regions nodes x) (rowRule regions x) ≡ cond t (frameRule regions′ nodes x) (rowRule regions′ x)

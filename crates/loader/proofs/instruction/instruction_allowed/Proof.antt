@@ -2,6 +2,7 @@ use native.Mathlib.Omega.{arith}
 use borrow.Author.Tests.{le-ltb}
 use mathlib.Core.Path.{_∙_}
 use Rattle.tables.specs.Cases.{caseOf}
+use Rattle.tables.specs.Family as family
 use Rattle.tables.proofs.Cases.{other-arm}
 use Rattle.loader.proofs.SourceLaws.{row-of}
 use Rattle.loader.specs.Instruction.{operatorsByFamily, operatorsOf, formAllowed, operandsAllowed, instructionAllowed}
@@ -92,47 +93,47 @@ no-source-requires-5 c κs = search needs
 
 returns : tie.Need-returns
 unfolding caseOf operatorsOf formAllowed
-returns c = row-of _ _ _ 0 (c .before .before .match .keys1) (c .before .up-to .ensures) (c .any-source .ensures)
+returns c = row-of _ _ _ family.arithmetic (c .before .before .match .keys1) (c .before .up-to .ensures) (c .any-source .ensures)
 
 returns-2 : tie.Need-returns-2
 unfolding caseOf operatorsOf formAllowed
-returns-2 c = row-of _ _ _ 1 (c .before .before .match .keys2) (c .before .up-to2 .ensures) (c .any-source2 .ensures)
+returns-2 c = row-of _ _ _ family.comparison (c .before .before .match .keys2) (c .before .up-to2 .ensures) (c .any-source2 .ensures)
 
 returns-3 : tie.Need-returns-3
 unfolding caseOf operatorsOf formAllowed
-returns-3 c = row-of _ _ _ 2 (c .before .before .match .keys3) (c .before .up-to3 .ensures) (c .integral-source .ensures)
+returns-3 c = row-of _ _ _ family.binaryLogic (c .before .before .match .keys3) (c .before .up-to3 .ensures) (c .integral-source .ensures)
 
 returns-4 : tie.Need-returns-4
 unfolding caseOf operatorsOf formAllowed
-returns-4 c = row-of _ _ _ 3 (c .before .before .match .keys4) (c .before .up-to4 .ensures) (c .no-source .ensures)
+returns-4 c = row-of _ _ _ family.unary (c .before .before .match .keys4) (c .before .up-to4 .ensures) (c .no-source .ensures)
 
 returns-5 : tie.Need-returns-5
 unfolding caseOf operatorsOf formAllowed
-returns-5 c = row-of _ _ _ 4 (c .before .before .match .keys5) (c .before .up-to5 .ensures) (c .any-source3 .ensures)
+returns-5 c = row-of _ _ _ family.move (c .before .before .match .keys5) (c .before .up-to5 .ensures) (c .any-source3 .ensures)
 
 returns-6 : tie.Need-returns-6
 unfolding caseOf operatorsOf formAllowed
-returns-6 c = row-of _ _ _ 5 (c .before .before .match .keys6) (c .before .up-to6 .ensures) (c .no-source2 .ensures)
+returns-6 c = row-of _ _ _ family.exchange (c .before .before .match .keys6) (c .before .up-to6 .ensures) (c .no-source2 .ensures)
 
 returns-7 : tie.Need-returns-7
 unfolding caseOf operatorsOf formAllowed
-returns-7 c = row-of _ _ _ 6 (c .before .before .before .match .keys7) (c .before .before .up-to7 .ensures) (c .reference-source .ensures)
+returns-7 c = row-of _ _ _ family.load (c .before .before .before .match .keys7) (c .before .before .up-to7 .ensures) (c .reference-source .ensures)
 
 returns-8 : tie.Need-returns-8
 unfolding caseOf operatorsOf formAllowed
-returns-8 c = row-of _ _ _ 7 (c .before .before .before .match .keys8) (c .before .before .up-to8 .ensures) (c .any-source4 .ensures)
+returns-8 c = row-of _ _ _ family.store (c .before .before .before .match .keys8) (c .before .before .up-to8 .ensures) (c .any-source4 .ensures)
 
 returns-9 : tie.Need-returns-9
 unfolding caseOf operatorsOf formAllowed
-returns-9 c = row-of _ _ _ 8 (c .before .before .before .match .keys9) (c .before .before .up-to9 .ensures) (c .no-source3 .ensures ∙ rw (c .before .ends-with .ensures))
+returns-9 c = row-of _ _ _ family.frame (c .before .before .before .match .keys9) (c .before .before .up-to9 .ensures) (c .no-source3 .ensures ∙ rw (c .before .ends-with .ensures))
 
 returns-10 : tie.Need-returns-10
 unfolding caseOf operatorsOf formAllowed
-returns-10 c = row-of _ _ _ 9 (c .before .before .before .before .match .keys10) (c .before .before .before .up-to10 .ensures) (c .no-source4 .ensures ∙ rw (c .before .range-inside .ensures))
+returns-10 c = row-of _ _ _ family.call (c .before .before .before .before .match .keys10) (c .before .before .before .up-to10 .ensures) (c .no-source4 .ensures ∙ rw (c .before .range-inside .ensures))
 
 returns-11 : tie.Need-returns-11
 unfolding caseOf operatorsOf formAllowed
-returns-11 c = row-of _ _ _ 10 (c .before .before .before .before .match .keys11) (c .before .before .before .up-to11 .ensures) (c .no-source5 .ensures)
+returns-11 c = row-of _ _ _ family.other (c .before .before .before .before .match .keys11) (c .before .before .before .up-to11 .ensures) (c .no-source5 .ensures)
 
 returns-12 : tie.Need-returns-12
 unfolding instructionAllowed operatorsOf

@@ -1,16 +1,14 @@
-use mathlib.Core.Bool.{true}
-use mathlib.Core.Path.{_≡_, refl, sym, _∙_}
+use mathlib.Core.Path.{_≡_, refl}
 use borrow.Author.Needs.{needs}
-use borrow.Author.Tests.{not-true, not-false}
 use Rattle.tables.specs.Outcome.{ok, seen}
 use Rattle.operands.specs.Cells.{readOf, sourceOf, readOutcome}
-use Rattle.operators.specs.Operators.{arithmeticKinds, quotientOutcome}
+use Rattle.operators.specs.Operators.{quotientOutcome}
 use Rattle.machine.specs.Families.{combinedOf, arithmeticOf}
 use Rattle.machine.proofs.Looked.{looked, no-first, no-second, both, no-kinds, kinds, no-result, result}
 use Rattle.machine.proofs.family.arithmetic.Statement.{statement}
 use Rattle.machine.proofs.family.arithmetic.Tie as tie
 
--- ---- the places: both operands were read, and their kinds have a rule
+-- ---- the places: both operands were read
 
 abbrev entry : tie.After-d → tie.Start
 entry d = d .before .before .before .before
@@ -26,9 +24,6 @@ operand d = seen readOutcome (d .before .before .read-cell .ensures) (d .d .give
 
 source : (s : tie.After-s) → let a = entry (operand-of s) .args in sourceOf (a .cells .now) (a .x) (a .a .source) ≡ ok (s .s .given .0 .0)
 source s = seen readOutcome (s .before .before .read-source .ensures) (s .s .given .1)
-
-ruled : (k : tie.Else1) → let s = source-of k in arithmeticKinds (operand-of s .d .given .0 .0 .kind) (s .s .given .0 .0 .kind) ≡ true
-ruled k = sym (k .before .arithmetic-kinds .ensures) ∙ not-false _ (k .if1 .left)
 
 -- ---- the needs
 
@@ -65,7 +60,7 @@ returns-3 : tie.Need-returns-3
 unfolding arithmeticOf combinedOf
 returns-3 c =
     let s = c .before .before .before in
-    looked (both (operand (operand-of s)) (source s) (no-kinds _ (sym (c .before .arithmetic-kinds .ensures) ∙ not-true _ (c .if1 .taken))))
+    looked (both (operand (operand-of s)) (source s) (no-kinds _ (c .before .arithmetic-kinds .ensures) (c .if1 .taken)))
 
 arithmetic-result-requires : tie.Need-arithmetic-result-requires
 arithmetic-result-requires c κs = search needs
@@ -81,7 +76,7 @@ unfolding arithmeticOf combinedOf
 returns-4 c =
     let k = c .before .before .before in
     let s = source-of k in
-    looked (both (operand (operand-of s)) (source s) (kinds (ruled k) (no-result _ (seen quotientOutcome (c .before .before .arithmetic-result .ensures) (c .enum-told3 .given .1)))))
+    looked (both (operand (operand-of s)) (source s) (kinds (k .before .arithmetic-kinds .ensures) (k .if1 .left) (no-result _ (seen quotientOutcome (c .before .before .arithmetic-result .ensures) (c .enum-told3 .given .1)))))
 
 returns-5 : tie.Need-returns-5
 unfolding arithmeticOf combinedOf
@@ -89,7 +84,7 @@ returns-5 c =
     let w = c .before in
     let k = w .before .before .before in
     let s = source-of k in
-    looked (both (operand (operand-of s)) (source s) (kinds (ruled k) (result _ (seen quotientOutcome (w .before .before .arithmetic-result .ensures) (w .word .given .1)) refl)))
+    looked (both (operand (operand-of s)) (source s) (kinds (k .before .arithmetic-kinds .ensures) (k .if1 .left) (result _ (seen quotientOutcome (w .before .before .arithmetic-result .ensures) (w .word .given .1)) refl)))
 
 pub arithmetic-spec : {M : Type 1} → statement M
 arithmetic-spec =

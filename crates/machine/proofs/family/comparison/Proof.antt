@@ -1,16 +1,13 @@
-use mathlib.Core.Bool.{true}
-use mathlib.Core.Path.{_≡_, refl, sym, _∙_}
+use mathlib.Core.Path.{_≡_, refl}
 use borrow.Author.Needs.{needs}
-use borrow.Author.Tests.{not-true, not-false}
 use Rattle.tables.specs.Outcome.{ok, seen}
 use Rattle.operands.specs.Cells.{readOf, sourceOf, readOutcome}
-use Rattle.operators.specs.Operators.{comparisonKinds}
 use Rattle.machine.specs.Families.{comparisonOf}
 use Rattle.machine.proofs.Looked.{looked, no-first, no-second, both, no-kinds, kinds}
 use Rattle.machine.proofs.family.comparison.Statement.{statement}
 use Rattle.machine.proofs.family.comparison.Tie as tie
 
--- ---- the places: both operands were read, and their kinds have a rule
+-- ---- the places: both operands were read
 
 abbrev entry : tie.After-l → tie.Start
 entry l = l .before .before .before .before
@@ -26,9 +23,6 @@ operand l = seen readOutcome (l .before .before .read-cell .ensures) (l .l .give
 
 source : (s : tie.After-s) → let a = entry (operand-of s) .args in sourceOf (a .cells .now) (a .x) (a .a .source) ≡ ok (s .s .given .0 .0)
 source s = seen readOutcome (s .before .before .read-source .ensures) (s .s .given .1)
-
-ruled : (k : tie.Else1) → let s = source-of k in comparisonKinds (operand-of s .l .given .0 .0 .kind) (s .s .given .0 .0 .kind) ≡ true
-ruled k = sym (k .before .comparison-kinds .ensures) ∙ not-false _ (k .if1 .left)
 
 -- ---- the needs
 
@@ -65,7 +59,7 @@ returns-3 : tie.Need-returns-3
 unfolding comparisonOf
 returns-3 c =
     let s = c .before .before .before in
-    looked (both (operand (operand-of s)) (source s) (no-kinds _ (sym (c .before .comparison-kinds .ensures) ∙ not-true _ (c .if1 .taken))))
+    looked (both (operand (operand-of s)) (source s) (no-kinds _ (c .before .comparison-kinds .ensures) (c .if1 .taken)))
 
 comparison-result-requires : tie.Need-comparison-result-requires
 comparison-result-requires c κs = search needs
@@ -75,7 +69,7 @@ unfolding comparisonOf
 returns-4 c =
     let k = c .before in
     let s = source-of k in
-    rw (c .comparison-result .ensures) (looked (both (operand (operand-of s)) (source s) (kinds (ruled k) refl)))
+    rw (c .comparison-result .ensures) (looked (both (operand (operand-of s)) (source s) (kinds (k .before .comparison-kinds .ensures) (k .if1 .left) refl)))
 
 pub comparison-spec : {M : Type 1} → statement M
 comparison-spec =

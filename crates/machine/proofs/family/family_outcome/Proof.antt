@@ -3,10 +3,9 @@ use mathlib.Core.List.{List}
 use mathlib.Core.Path.{_∙_}
 use Rattle.journal.specs.declared.cells.Write.{Write}
 use Rattle.machine.specs.Families.{noWrites, families, familyOf}
-use Rattle.machine.proofs.Past.{at-key}
 use Rattle.tables.specs.Cases.{caseOf}
 use Rattle.tables.specs.Outcome.{Outcome}
-use Rattle.tables.proofs.Cases.{other-arm}
+use Rattle.tables.proofs.Cases.{other-arm, at-key}
 use Rattle.machine.proofs.Reaches.{arithmetic-reach, comparison-reach, logic-reach, unary-reach, move-reach, exchange-reach, load-reach, store-reach}
 use Rattle.machine.proofs.family.family_outcome.Statement.{statement}
 use Rattle.machine.proofs.family.family_outcome.Tie as tie

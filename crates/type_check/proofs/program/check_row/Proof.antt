@@ -3,6 +3,7 @@ use borrow.Author.Needs.{needs}
 use Rattle.tables.specs.Cases.{caseOf}
 use Rattle.type_check.specs.Rule.{ruleOf}
 use Rattle.type_check.specs.Check.{verdictOf}
+use Rattle.tables.specs.Family as family
 use Rattle.type_check.proofs.CheckLaws.{family-judgement, frame-judgement, other-judgement}
 use Rattle.type_check.proofs.program.check_row.Statement.{statement}
 use Rattle.type_check.proofs.program.check_row.Tie as tie
@@ -36,35 +37,35 @@ check-frame-requires c κs = c .before .before .before .pre .inside (c .match .k
 
 returns : tie.Need-returns
 unfolding verdictOf ruleOf caseOf
-returns c = rw (family-judgement _ _ (c .before .before .before .before .args .x) 0 (c .before .match .keys1) refl) (c .type-check-arithmetic .ensures)
+returns c = rw (family-judgement _ _ (c .before .before .before .before .args .x) family.arithmetic (c .before .match .keys1) refl) (c .type-check-arithmetic .ensures)
 
 returns-2 : tie.Need-returns-2
 unfolding verdictOf ruleOf caseOf
-returns-2 c = rw (family-judgement _ _ (c .before .before .before .before .args .x) 1 (c .before .match .keys2) refl) (c .type-check-comparison .ensures)
+returns-2 c = rw (family-judgement _ _ (c .before .before .before .before .args .x) family.comparison (c .before .match .keys2) refl) (c .type-check-comparison .ensures)
 
 returns-3 : tie.Need-returns-3
 unfolding verdictOf ruleOf caseOf
-returns-3 c = rw (family-judgement _ _ (c .before .before .before .before .args .x) 2 (c .before .match .keys3) refl) (c .type-check-binary-logic .ensures)
+returns-3 c = rw (family-judgement _ _ (c .before .before .before .before .args .x) family.binaryLogic (c .before .match .keys3) refl) (c .type-check-binary-logic .ensures)
 
 returns-4 : tie.Need-returns-4
 unfolding verdictOf ruleOf caseOf
-returns-4 c = rw (family-judgement _ _ (c .before .before .before .before .args .x) 3 (c .before .match .keys4) refl) (c .type-check-unary-logic .ensures)
+returns-4 c = rw (family-judgement _ _ (c .before .before .before .before .args .x) family.unary (c .before .match .keys4) refl) (c .type-check-unary-logic .ensures)
 
 returns-5 : tie.Need-returns-5
 unfolding verdictOf ruleOf caseOf
-returns-5 c = rw (family-judgement _ _ (c .before .before .before .before .args .x) 4 (c .before .match .keys5) refl) (c .type-check-move .ensures)
+returns-5 c = rw (family-judgement _ _ (c .before .before .before .before .args .x) family.move (c .before .match .keys5) refl) (c .type-check-move .ensures)
 
 returns-6 : tie.Need-returns-6
 unfolding verdictOf ruleOf caseOf
-returns-6 c = rw (family-judgement _ _ (c .before .before .before .before .args .x) 5 (c .before .match .keys6) refl) (c .type-check-exchange .ensures)
+returns-6 c = rw (family-judgement _ _ (c .before .before .before .before .args .x) family.exchange (c .before .match .keys6) refl) (c .type-check-exchange .ensures)
 
 returns-7 : tie.Need-returns-7
 unfolding verdictOf ruleOf caseOf
-returns-7 c = rw (family-judgement _ _ (c .before .before .before .before .args .x) 6 (c .before .match .keys7) refl) (c .type-check-load .ensures)
+returns-7 c = rw (family-judgement _ _ (c .before .before .before .before .args .x) family.load (c .before .match .keys7) refl) (c .type-check-load .ensures)
 
 returns-8 : tie.Need-returns-8
 unfolding verdictOf ruleOf caseOf
-returns-8 c = rw (family-judgement _ _ (c .before .before .before .before .args .x) 7 (c .before .match .keys8) refl) (c .type-check-store .ensures)
+returns-8 c = rw (family-judgement _ _ (c .before .before .before .before .args .x) family.store (c .before .match .keys8) refl) (c .type-check-store .ensures)
 
 returns-9 : tie.Need-returns-9
 unfolding verdictOf

@@ -6,11 +6,21 @@ use Rattle.type_check.proofs.CodeLaws.{Kind, kind-read, code-none, code
 use Rattle.type_check.proofs.rules.pair_of.Statement.{statement}
 use Rattle.type_check.proofs.rules.pair_of.Tie as tie
 
-seen-first : (c : tie.After-kind-at) → let a = c .before .before .before .before .before .before .before .before .before .before .args in Kind (a .regions .now) (a .x .«first_name») (c .kind-at .result)
-seen-first c = kind-read _ _ (c .before .before .before .before .before .before .before .before .lookup-region .ensures) (c .before .before .before .before .before .before .first .given .1) (c .kind-at .ensures)
+-- ---- the places: the first name was found, then the second
 
-seen-second : (c : tie.After-kind-at2) → let a = c .before .before .before .before .before .before .before .before .before .before .before .args in Kind (a .regions .now) (a .x .«second_name») (c .kind-at2 .result)
-seen-second c = kind-read _ _ (c .before .before .before .before .before .lookup-region2 .ensures) (c .before .before .before .second .given .1) (c .kind-at2 .ensures)
+abbrev entry : tie.After-first → tie.Start
+entry f = f .before .before .before .before
+
+abbrev first-of : tie.After-second → tie.After-first
+first-of s = s .before .before .before .before
+
+seen-first : (c : tie.After-kind-at) → let a = entry (first-of (c .before .before)) .args in Kind (a .regions .now) (a .x .«first_name») (c .kind-at .result)
+seen-first c = let f = first-of (c .before .before) in kind-read _ _ (f .before .before .lookup-region .ensures) (f .first .given .1) (c .kind-at .ensures)
+
+seen-second : (c : tie.After-kind-at2) → let a = entry (first-of (c .before .before .before)) .args in Kind (a .regions .now) (a .x .«second_name») (c .kind-at2 .result)
+seen-second c = let s = c .before .before .before in kind-read _ _ (s .before .before .lookup-region2 .ensures) (s .second .given .1) (c .kind-at2 .ensures)
+
+-- ---- the needs
 
 lookup-region-requires : tie.Need-lookup-region-requires
 lookup-region-requires c κs = search needs
@@ -42,13 +52,15 @@ undefined-memory-reference-requires-2 c κs = search needs
 
 returns-2 : tie.Need-returns-2
 unfolding pairOf
-returns-2 c = rw (code-declared _ _ (c .before .before .before .before .before .before .before .lookup-region .ensures) (c .before .before .before .before .before .first .given .1), code-none _ _ (c .before .before .before .lookup-region2 .ensures) (c .before .enum-told2 .given .1), c .undefined-memory-reference2 .ensures)
+returns-2 c =
+    let f = c .before .before .before .before .before in
+    rw (code-declared _ _ (f .before .before .lookup-region .ensures) (f .first .given .1), code-none _ _ (c .before .before .before .lookup-region2 .ensures) (c .before .enum-told2 .given .1), c .undefined-memory-reference2 .ensures)
 
 kind-at-requires : tie.Need-kind-at-requires
-kind-at-requires c κs = lookup-within _ _ _ _ (sym (c .before .before .before .before .before .before .before .lookup-region .ensures) ∙ c .before .before .before .before .before .first .given .1)
+kind-at-requires c κs = let f = first-of (c .before) in lookup-within _ _ _ _ (sym (f .before .before .lookup-region .ensures) ∙ f .first .given .1)
 
 kind-at-requires-2 : tie.Need-kind-at-requires-2
-kind-at-requires-2 c κs = lookup-within _ _ _ _ (sym (c .before .before .before .before .lookup-region2 .ensures) ∙ c .before .before .second .given .1)
+kind-at-requires-2 c κs = let s = c .before .before in lookup-within _ _ _ _ (sym (s .before .before .lookup-region2 .ensures) ∙ s .second .given .1)
 
 returns-3 : tie.Need-returns-3
 unfolding pairOf
