@@ -3,7 +3,7 @@
 
 With a number N it writes N random words to standard output instead, and with `answers` after it what must come out.
 """
-import os, random, struct, sys
+import os, random, re, struct, sys
 
 
 def real(word):
@@ -15,10 +15,15 @@ def word(x):
 
 
 def answer(line):
-    if len(line) == 18:
+    if line.startswith("0x"):
         return repr(real(int(line, 16))).lstrip("-") if "7ff" in line[2:6] and real(int(line, 16)) != real(int(line, 16)) else repr(real(int(line, 16)))
-    digits = sum(c.isdigit() for c in line)
-    if digits > 15 or digits == 0 or line.count(".") > 1:
+    decimal = re.fullmatch(r"-?(\d*)(?:\.(\d*))?(?:[eE]([+-]?\d+))?", line)
+    if not decimal:
+        return "no short decimal"
+    before, after, exponent = (part or "" for part in decimal.groups())
+    digits, tens = len(before + after), int(exponent or 0) - len(after)
+    # 15 digits and a power of ten of at most 22 are exact in binary64
+    if not 1 <= digits <= 15 or len(exponent.lstrip("+-")) > 15 or abs(tens) > 22:
         return "no short decimal"
     return "%016x %r" % (word(float(line)), float(line))
 
@@ -49,7 +54,9 @@ def words(count, seed):
 
 
 SHORT = ["0.5", "-0.5", "0.1", "-0.0", "3", "3.25", ".5", "5.", "123456789012345", "0.00000000000001", "999999999999.999",
-         "1234567890123456", "1.2.3", "-", ".", "-.5"]
+         "1234567890123456", "1.2.3", "-", ".", "-.5", "1" * 1030 + ".5", "1e-07", "1.5e3", "-2E+2", "123456789012345e-22", "9e22",
+         "1e23", "1.5e-21", "1.5e-22", "123456789012345e22", "1e", "e5", "1e+", "1e-", "1e1.5", "1ee2", "0e0", "0.001e25", "0.001e26",
+         "1e0000000000000007", "1e18446744073709551617"]
 
 
 def main():

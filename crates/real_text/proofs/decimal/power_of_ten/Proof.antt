@@ -13,8 +13,8 @@ abbrev μ-loop : tie.MeasureT-loop
 loop-holds : tie.Need-loop-holds Inv-loop μ-loop
 loop-holds c = search needs
 
-mul-power : tie.Need-mul-power Inv-loop μ-loop
-mul-power c = search needs
+multiply-requires : tie.Need-multiply-requires Inv-loop μ-loop
+multiply-requires c κs = search needs
 
 add-i : tie.Need-add-i Inv-loop μ-loop
 add-i c = search needs
@@ -30,4 +30,4 @@ returns c = search needs
 
 pub power-of-ten-spec : {M : Type 1} → statement M
 power-of-ten-spec =
-    tie.close (tie.spec Inv-loop μ-loop loop-holds mul-power add-i loop-less loop-again returns)
+    tie.close (tie.spec Inv-loop μ-loop loop-holds multiply-requires add-i loop-less loop-again returns)

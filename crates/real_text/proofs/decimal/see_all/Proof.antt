@@ -1,15 +1,15 @@
 -- `real_text::decimal::see_all` is safe and ends. Assumes nothing.
-use Prim.Native.Nat.{_-_}
+use Prim.Native.Nat.{_-_, _≤_}
 use lib.ListN.{length}
 use borrow.Author.Needs.{needs}
 use Rattle.real_text.proofs.decimal.see_all.Statement.{statement}
 use Rattle.real_text.proofs.decimal.see_all.Tie as tie
 
 abbrev Inv-loop : tie.InvT-loop
-Inv-loop text first seen₀ i₀ seen i = Unit {0}
+Inv-loop text first end seen₀ i₀ seen i = end ≤ length text
 
 abbrev μ-loop : tie.MeasureT-loop
-μ-loop text first seen₀ i₀ seen i = length text - i
+μ-loop text first end seen₀ i₀ seen i = end - i
 
 loop-holds : tie.Need-loop-holds Inv-loop μ-loop
 loop-holds c = search needs
