@@ -33,14 +33,14 @@ pub record Referencing : Type 0 where
 abbrev pub referencing : ReferencesAnswer → List ℕ → Referencing
 referencing answer rows = record { answer = answer; rows = rows }
 
-abbrev pub handedOut : Handing → Referencing
-handedOut h = referencing (A.Handed (h .handed)) (h .rows)
+abbrev pub handedAnswer : Handing → Referencing
+handedAnswer h = referencing (A.Handed (h .handed)) (h .rows)
 
 -- "1, 2, no other refusal"; a refusal writes nothing
 unfoldable pub referencesList : List ℕ → ℕ → ℕ → ℕ → List ℕ → Referencing
 referencesList nodes first count place rows =
     after (loadNodesLook nodes first count) (λ number. referencing (A.Refused number) rows)
-    (handedOut (handOutIn nodes first count place rows))
+    (handedAnswer (handOutIn nodes first count place rows))
 
 -- the answer's cases: 0 or the refusal's number
 abbrev pub referencesNumber : ReferencesAnswer → ℕ
