@@ -2,7 +2,7 @@ use mathlib.Core.Path.{ap, _∙_}
 use Rattle.tables.specs.Outcome.{seen}
 use Rattle.tables.specs.Look.{lookOutcome}
 use Rattle.loader.proofs.Loaded.{loaded-nodes}
-use Rattle.console.specs.References.{handedOut, referencesList}
+use Rattle.console.specs.References.{handedAnswer, referencesList}
 use borrow.Author.Needs.{needs}
 use Rattle.console.proofs.references.references.Statement.{statement}
 use Rattle.console.proofs.references.references.Tie as tie
@@ -35,7 +35,7 @@ unfolding referencesList
 returns-2 c =
     let called = c .before .before in
     let accepted = called .before .before in
-    rw (seen lookOutcome (accepted .before .before .load-nodes .ensures) (accepted .enum-told .given .1)) (ap handedOut (called .references-in .ensures))
+    rw (seen lookOutcome (accepted .before .before .load-nodes .ensures) (accepted .enum-told .given .1)) (ap handedAnswer (called .references-in .ensures))
 
 pub references-spec : {M : Type 1} → statement M
 references-spec =
