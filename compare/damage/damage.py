@@ -5,7 +5,8 @@ Usage: compare/damage/damage.py [--seed N] [--runs N] [--show N] [--program PATH
 
 N damaged copies (200) of each file under examples/ and of the two programs' own files are read by the console's program,
 `target/bin/stepper tables FILE`, and by reader.py, which is written from docs/FORMAT.md and the laboratory's paper.
-Both must refuse the same line, or give the same six tables word for word. Each file is read undamaged first.
+Both must refuse the same line, or give the same six tables word for word. Each file is read undamaged first, and so
+are the files of edges.py.
 The last line has the counts; ends with 0 only if nothing differs.
 """
 import argparse
@@ -16,6 +17,7 @@ import subprocess
 import sys
 import tempfile
 
+from edges import EDGES
 from reader import HEADINGS, LISTS, OPERATIONS, OTHER_LINES, WIDTHS, read
 
 ROOT = pathlib.Path(__file__).resolve().parents[2]
@@ -142,6 +144,20 @@ def damaged(rng, data):
     return data
 
 
+def cases(options):
+    """Each file's name and bytes: the edges, then every file and its damaged copies."""
+    for i, data in enumerate(EDGES):
+        yield f'edge {i}', data
+    files = [*sorted((ROOT / 'examples').glob('*.tables')),
+             ROOT / 'crates/stepper/data/exercise.tables', ROOT / 'crates/stepper_examples/data/counts.tables']
+    for file in files:
+        rng = random.Random(f'{options.seed} {file.name}')
+        whole = file.read_bytes()
+        yield file.name, whole
+        for _ in range(options.runs):
+            yield file.name, damaged(rng, whole)
+
+
 def main():
     options = argparse.ArgumentParser(description=__doc__, formatter_class=argparse.RawDescriptionHelpFormatter)
     options.add_argument('--seed', type=int, default=1)
@@ -149,23 +165,18 @@ def main():
     options.add_argument('--show', type=int, default=5, help='differences that are printed')
     options.add_argument('--program', default=str(ROOT / 'target/bin/stepper'))
     options = options.parse_args()
-    files = [*sorted((ROOT / 'examples').glob('*.tables')),
-             ROOT / 'crates/stepper/data/exercise.tables', ROOT / 'crates/stepper_examples/data/counts.tables']
     counts = dict(files=0, refused=0, equal=0, differ=0)
     with tempfile.TemporaryDirectory() as folder:
         path = pathlib.Path(folder) / 'damaged.tables'
-        for file in files:
-            rng = random.Random(f'{options.seed} {file.name}')
-            whole = file.read_bytes()
-            for data in [whole, *(damaged(rng, whole) for _ in range(options.runs))]:
-                path.write_bytes(data)
-                run = subprocess.run([options.program, 'tables', str(path)], stdout=subprocess.PIPE)
-                said, told = parse(run.stdout), read(data)
-                same = said == told and run.returncode == 0
-                counts['files'] += 1
-                counts['differ' if not same else 'refused' if isinstance(said, int) else 'equal'] += 1
-                if not same and counts['differ'] <= options.show:
-                    print(f'--- {file.name}: program {said}, reader.py {told}\n{data.decode("latin-1")}')
+        for name, data in cases(options):
+            path.write_bytes(data)
+            run = subprocess.run([options.program, 'tables', str(path)], stdout=subprocess.PIPE)
+            said, told = parse(run.stdout), read(data)
+            same = said == told and run.returncode == 0
+            counts['files'] += 1
+            counts['differ' if not same else 'refused' if isinstance(said, int) else 'equal'] += 1
+            if not same and counts['differ'] <= options.show:
+                print(f'--- {name}: program {said}, reader.py {told}\n{data.decode("latin-1")}')
     print(f'seed {options.seed}: ' + ', '.join(f'{n} {what}' for what, n in counts.items()))
     return 0 if counts['differ'] == 0 and counts['equal'] > 0 else 1
 
