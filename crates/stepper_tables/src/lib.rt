@@ -3,6 +3,7 @@ pub mod file;
 pub mod heading;
 pub mod list;
 pub mod names;
+pub mod place;
 pub mod plant;
 pub mod row;
 pub mod vocabulary;

@@ -1,0 +1,60 @@
+"""Files at the limits of docs/FORMAT.md and at the edges of its words: `EDGES`, the files' bytes."""
+
+
+def names(count):
+    return 'nodes\n' + ''.join(f'variable n{i} -\n' for i in range(count))
+
+
+def nodes(count):
+    return 'nodes\n' + 'pi - -\n' * count
+
+
+WORDS = '''
+word 1
+nodes / word
+nodes / word 0 0 0 / variable a -
+regions / a BIT 18446744073709551615
+regions / a BIT 18446744073709551616
+regions / a BIT -9223372036854775808
+regions / a BIT -9223372036854775809
+regions / a BIT 0x0000000000000000000001
+regions / a BIT 0x10000000000000000
+regions / a BIT 0X1
+regions / a 4 1
+regions / a none 1
+regions / Position 1 2
+Regions
+externs / f none 0 0
+externs / f - 0 0
+parameters / p mutable fixed BIT -
+parameters / p mutable scalar BIT 3
+parameters / p mutable 3 BIT -
+nodes / number 999999999999999. .000000000000001
+nodes / number 1000000000000000. 0.0
+nodes / number -0.0 -.5
+nodes / number 1e5 0.0
+nodes / number . 0.0
+nodes / number 0x7FF0000000000001 0x0
+nodes / 7 - 1
+nodes / 7 a -
+arguments / 3 - 1
+instructions / 11 1 - - - 2 - - 5
+instructions / 11 1 a - - - - - -
+instructions / 4 - 0 0 - - integer 5 -
+instructions / 0 - 0 0 - - integer 5 -
+instructions / 0 ADD 0 0 - - integer 5 -
+instructions / MOVE 0 0 - - 9 1 2
+instructions / STORE a 0 a 0 none - -
+instructions / LOAD a 0 a - reference a -
+cell 0 REAL 2
+cell 0 none 2
+cell 0 9 2
+entry 0 1 2 -
+position 0
+'''
+
+EDGES = [text.encode() for text in [
+    names(1024), names(1025), nodes(2062), nodes(2063), '#' * 65535, '#' * 65536,
+    'nodes\nword' + ' 1' * 16, 'nodes\nword' + ' 1' * 17,
+    *(line.replace(' / ', '\n') for line in WORDS.strip().split('\n')),
+]]
