@@ -33,6 +33,14 @@ nodes / number 999999999999999. .000000000000001
 nodes / number 1000000000000000. 0.0
 nodes / number -0.0 -.5
 nodes / number 1e5 0.0
+nodes / number 1.5E-7 -2e+3
+nodes / number 1e22 1e-22
+nodes / number 1e23 0.0
+nodes / number 1.5e-22 0.0
+nodes / number 0.5e1.5 0.0
+nodes / number 1e 0.0
+nodes / number e5 0.0
+nodes / number 0x1e5 0.0
 nodes / number . 0.0
 nodes / number 0x7FF0000000000001 0x0
 nodes / 7 - 1

@@ -99,7 +99,12 @@ def whole(word):
 def real(word):
     if word.startswith('0x'):
         return whole(word)
-    if not re.fullmatch(r'-?[0-9]*\.[0-9]*', word) or not 1 <= sum(c.isdigit() for c in word) <= 15:
+    decimal = re.fullmatch(r'-?([0-9]*)(\.[0-9]*)?([eE][+-]?[0-9]{1,15})?', word)
+    if not decimal or not (decimal[2] or decimal[3]):
+        raise Refused
+    after = len(decimal[2] or '.') - 1
+    exponent = int(decimal[3][1:]) if decimal[3] else 0
+    if not 1 <= len(decimal[1]) + after <= 15 or abs(exponent - after) > 22:
         raise Refused
     return struct.unpack('<Q', struct.pack('<d', float(word)))[0]
 

@@ -113,7 +113,7 @@ fn complain(view: View, fault: Fault) {
     text(b"not taken: ");
     match fault {
         Fault::TooLarge => text(b"the number does not fit 64 bits"),
-        Fault::TooManyDigits => text(b"a REAL has at most 15 digits here; write its bits as 0x.."),
+        Fault::TooManyDigits => text(b"at most 15 digits, exponent 22; write its bits as 0x.."),
         _ => text(
             b"a row is argument, offset and value, a REAL as a decimal or as bits 0x.., any other kind as an integer; an empty line ends the reply",
         ),

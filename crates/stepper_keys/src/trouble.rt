@@ -87,8 +87,7 @@ fn fault_text(fault: Fault, word: &[u8]) {
     match fault {
         Fault::NoWord => text(b"no word of this file; write a number or a name"),
         Fault::TooLarge => text(b"it does not fit 64 bits; write a smaller number"),
-        Fault::TooManyDigits => text(b"a REAL has at most 15 digits here; write its bits as 0x.."),
-        Fault::Exponent => text(b"an exponent is not read; write all digits, or the bits as 0x.."),
+        Fault::TooManyDigits => text(b"at most 15 digits, exponent 22; write its bits as 0x.."),
         Fault::NoPoint => {
             text(b"write ");
             word_text(word);

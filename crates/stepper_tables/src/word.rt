@@ -15,7 +15,6 @@ pub enum Fault {
     NoWord,
     TooLarge,
     TooManyDigits,
-    Exponent,
     NoPoint,
     Reserved,
     Capitals(u64, u64),
@@ -171,29 +170,19 @@ fn operation(word: &[u8]) -> Value {
     }
 }
 
-fn no_decimal(fault: Fault, word: &[u8]) -> Fault {
-    if has(word, b'e') | has(word, b'E') {
-        return Fault::Exponent;
-    }
-    instead(fault, Place::Real)
-}
-
 fn short_decimal(word: &[u8]) -> Value {
     let written = decimal(word);
     match written {
         Written::Word(bits) => Value::One(bits),
-        Written::Not(fault) => Value::Not(no_decimal(fault, word)),
+        Written::Not(fault) => Value::Not(instead(fault, Place::Real)),
     }
 }
 
-// Digits without a point could mean the value or the bits.
+// Digits without a point or an exponent could mean the value or the bits.
 fn pointless(word: &[u8]) -> Value {
     let value = whole(word, Place::Real);
-    if byte_at(word, 1) == b'x' {
-        return value;
-    }
     match value {
-        Value::Not(fault) => Value::Not(no_decimal(fault, word)),
+        Value::Not(fault) => Value::Not(fault),
         _ => Value::Not(Fault::NoPoint),
     }
 }
@@ -202,7 +191,10 @@ fn real(word: &[u8]) -> Value {
     if !starts_number(word) {
         return stranger(word, Place::Real);
     }
-    if has(word, b'.') {
+    if byte_at(word, 1) == b'x' {
+        return whole(word, Place::Real);
+    }
+    if has(word, b'.') | (has(word, b'e') | has(word, b'E')) {
         return short_decimal(word);
     }
     pointless(word)
