@@ -141,7 +141,7 @@ fn allowed_words(words: Allowed) {
             text(b"; allowed is ");
             number(only)
         }
-        Allowed::Unused => text(b"; unused, so 0"),
+        Allowed::Unused => text(b"; unused, it must be 0"),
     }
 }
 
@@ -159,22 +159,22 @@ fn word_line(row: Row, words: [u64; ROW_WORDS], column: usize) {
 
 fn range_line(range: Range) {
     let table = range.table;
-    number(range.count);
-    byte(b' ');
+    text(b"\n  ");
     heading(table);
     text(b" from row ");
     number(range.first);
-    text(b" on");
+    text(b", count ");
+    number(range.count);
 }
 
 fn tree_line(range: Range, rows: u64) {
-    text(b":\n  its ");
+    byte(b':');
     range_line(range);
-    text(b" are not exactly one tree: ");
+    text(b": not exactly one tree; ");
     if rows == 0 {
         text(b"more are needed");
     } else {
-        text(b"it ends after ");
+        text(b"one ends after ");
         number(rows);
     }
 }
@@ -184,7 +184,7 @@ fn tell_row(at: Where, words: [u64; ROW_WORDS]) {
     match at {
         Where::Word(row, column) => word_line(row, words, column),
         Where::Outside(_, range) => {
-            text(b" asks for\n  ");
+            text(b" asks for");
             range_line(range);
             text(b", of ");
             grouped(range.rows)
@@ -231,7 +231,11 @@ pub fn tell(source: &[u8], names: &[u64; NAME_WORDS], view: View, at: Where, tab
             heading(which);
             text(b": ");
             grouped(words);
-            text(b" words, which are not whole rows of ");
+            text(b" word");
+            if words != 1 {
+                byte(b's');
+            }
+            text(b", not whole rows of ");
             grouped(width)
         }
         Where::OverLimit(which, rows, limit) => {
