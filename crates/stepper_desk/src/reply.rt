@@ -112,11 +112,11 @@ fn complain(view: View, fault: Fault) {
     style(view, b"31");
     text(b"not taken: ");
     match fault {
-        Fault::NoWord => text(
-            b"a row is argument, offset and value, a REAL as a decimal or as bits 0x.., any other kind as an integer; an empty line ends the reply",
-        ),
         Fault::TooLarge => text(b"the number does not fit 64 bits"),
         Fault::TooManyDigits => text(b"a REAL has at most 15 digits here; write its bits as 0x.."),
+        _ => text(
+            b"a row is argument, offset and value, a REAL as a decimal or as bits 0x.., any other kind as an integer; an empty line ends the reply",
+        ),
     }
     style(view, b"0");
     byte(b'\n');

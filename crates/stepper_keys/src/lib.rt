@@ -3,3 +3,5 @@ pub mod keys;
 pub mod load;
 pub mod run;
 pub mod steps;
+pub mod table_words;
+pub mod trouble;

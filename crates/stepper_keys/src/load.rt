@@ -1,5 +1,6 @@
 // A file read into the tables.
 ghost use Prim.Native.Nat.{_≤_};
+use crate::trouble::turned_down;
 use journal::cells::CELL_WIDTH;
 use journal::entries::ENTRY_WIDTH;
 use script::line::least;
@@ -9,9 +10,6 @@ use stepper_desk::state::Desk;
 use stepper_desk::state::JOURNAL_WORDS;
 use stepper_desk::state::State;
 use stepper_desk::state::TEXT_BYTES;
-use stepper_screen::print::byte;
-use stepper_screen::print::number;
-use stepper_screen::print::style;
 use stepper_screen::print::text;
 use stepper_tables::file::Memory;
 use stepper_tables::file::Reader;
@@ -20,8 +18,6 @@ use stepper_tables::file::read_file;
 use stepper_tables::heading::Table;
 use stepper_tables::names::NAME_WORDS;
 use stepper_tables::row::Outcome;
-use stepper_tables::row::Trouble;
-use stepper_tables::word::Fault;
 use tables::cells::CELL_LIMIT;
 use tables::cells::Cells;
 use tables::cells::cell_count;
@@ -34,37 +30,6 @@ fn cells_of(regions: &[u64]) -> usize
         return CELL_LIMIT;
     };
     cells
-}
-
-fn fault_text(fault: Fault) {
-    match fault {
-        Fault::NoWord => text(b"no number, no name and no word of this table"),
-        Fault::TooLarge => text(b"a number does not fit 64 bits"),
-        Fault::TooManyDigits => text(b"a REAL has at most 15 digits here; write its bits as 0x.."),
-    }
-}
-
-fn trouble_text(trouble: Trouble) {
-    match trouble {
-        Trouble::Word(fault) => fault_text(fault),
-        Trouble::Count => text(b"too many or too few words"),
-        Trouble::NoHeading => text(b"a row before any table's heading"),
-        Trouble::TooManyRows => text(b"the table has no room for more rows"),
-        Trouble::TooManyNames => text(b"more than 1024 names"),
-    }
-}
-
-// A line that is not taken: the desk has no file.
-fn turned_down(desk: Desk, line: usize, trouble: Trouble) -> Desk {
-    let view = desk.view;
-    style(view, b"31");
-    text(b"line ");
-    number(line as u64);
-    text(b": ");
-    trouble_text(trouble);
-    byte(b'\n');
-    style(view, b"0");
-    desk.stated(State::NoFile)
 }
 
 fn memory_words(memory: Memory, cells: usize) -> usize
@@ -107,7 +72,7 @@ fn read_tables(
             reader,
             cells_of(table(tables, Table::Regions, lengths)),
         ),
-        Outcome::Not(trouble) => turned_down(desk, reader.line, trouble),
+        Outcome::Not(trouble) => turned_down(desk, source, reader, trouble),
     }
 }
 

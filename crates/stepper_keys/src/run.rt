@@ -1,8 +1,9 @@
-// The program: `FILE` steps it, `check FILE` tells its verdict, `check FILE OTHER` that and then steps the other, `refusals` the page of refusals.
+// The program: `FILE` steps it, `check FILE` tells its verdict, `check FILE OTHER` that and then steps the other, `tables FILE` prints its six tables as words, `refusals` the page of refusals.
 use crate::keys::help;
 use crate::keys::open_file;
 use crate::keys::show;
 use crate::keys::turns;
+use crate::table_words::table_words;
 use libc::STDIN_FILENO;
 use libc::STDOUT_FILENO;
 use script::line::same;
@@ -87,6 +88,10 @@ pub fn run() {
     let first = &word[..length];
     if same(first, b"refusals") {
         page();
+        return;
+    }
+    if same(first, b"tables") {
+        table_words(desk);
         return;
     }
     if same(first, b"check") {

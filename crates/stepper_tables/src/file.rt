@@ -8,7 +8,9 @@ use crate::row::Outcome;
 use crate::row::ROW_WORDS;
 use crate::row::Row;
 use crate::row::Trouble;
+use crate::row::has_comment;
 use crate::row::read_row;
+use crate::word::Fault;
 use script::line::Line;
 use script::line::Word;
 use script::line::line_at;
@@ -30,12 +32,14 @@ pub enum Memory {
     Words(usize),
 }
 
-// What was read so far: the heading under which rows stand, the line and whether it is taken, the names, the tables' lengths in words, what is to be lent.
+// What was read so far: the heading under which rows stand, the line, its last word and whether it is taken, the names as texts, whether there are names as numbers, the tables' lengths in words, what is to be lent.
 pub struct Reader {
     pub heading: Heading,
     pub line: usize,
+    pub word: Word,
     pub outcome: Outcome,
     pub names: usize,
+    pub numbered: bool,
     pub lengths: [usize; TABLES],
     pub memory: Memory,
     pub entries: usize,
@@ -45,8 +49,10 @@ fn start() -> Reader {
     Reader {
         heading: Heading::Nothing,
         line: 0,
+        word: Word { start: 0, end: 0 },
         outcome: Outcome::Taken,
         names: 0,
+        numbered: false,
         lengths: [0; TABLES],
         memory: Memory::Enough,
         entries: DEFAULT_ENTRIES,
@@ -56,13 +62,16 @@ fn start() -> Reader {
 impl Reader {
     fn told(self, outcome: Outcome) -> Reader {
         let heading = self.heading;
+        let word = self.word;
         let lengths = self.lengths;
         let memory = self.memory;
         Reader {
             heading,
             line: self.line,
+            word,
             outcome,
             names: self.names,
+            numbered: self.numbered,
             lengths,
             memory,
             entries: self.entries,
@@ -74,14 +83,17 @@ impl Reader {
     }
 
     fn headed(self, table: Table) -> Reader {
+        let word = self.word;
         let outcome = self.outcome;
         let lengths = self.lengths;
         let memory = self.memory;
         Reader {
             heading: Heading::Of(table),
             line: self.line,
+            word,
             outcome,
             names: self.names,
+            numbered: self.numbered,
             lengths,
             memory,
             entries: self.entries,
@@ -90,13 +102,16 @@ impl Reader {
 
     fn lending(self, memory: Memory) -> Reader {
         let heading = self.heading;
+        let word = self.word;
         let outcome = self.outcome;
         let lengths = self.lengths;
         Reader {
             heading,
             line: self.line,
+            word,
             outcome,
             names: self.names,
+            numbered: self.numbered,
             lengths,
             memory,
             entries: self.entries,
@@ -109,10 +124,18 @@ impl Reader {
         next
     }
 
-    fn named(self, row: Row) -> Reader {
+    fn at(self, word: Word) -> Reader {
+        let mut next = self;
+        next.word = word;
+        next
+    }
+
+    // After the words of a line.
+    fn after(self, row: Row) -> Reader {
         let outcome = row.outcome;
-        let mut next = self.told(outcome);
+        let mut next = self.told(outcome).at(row.word);
         next.names = row.names;
+        next.numbered = row.numbered;
         next
     }
 }
@@ -154,9 +177,21 @@ fn table_words(tables: &mut [u64; TABLE_WORDS], whole: bool, row: Row, reader: R
         return reader.troubled(Trouble::NoHeading);
     };
     if whole & (row.count != table.width()) {
-        return reader.troubled(Trouble::Count);
+        return reader.troubled(Trouble::RowOf(table));
     }
     append(tables, table, row, reader)
+}
+
+// Words as they are: one in a name's place would mean whichever text came at that place, so a file has these or names as texts.
+fn loose_words(tables: &mut [u64; TABLE_WORDS], row: Row, reader: Reader) -> Reader
+    requires { ⌜ row .count ≤ 16 ⌝ }
+{
+    if reader.names > 0 {
+        return reader.troubled(Trouble::LooseWords);
+    }
+    let mut next = reader;
+    next.numbered = true;
+    table_words(tables, false, row, next)
 }
 
 // A line that is no table's.
@@ -180,7 +215,7 @@ fn take(tables: &mut [u64; TABLE_WORDS], heading: Heading, row: Row, reader: Rea
         return reader;
     }
     match heading {
-        Heading::Loose => table_words(tables, false, row, reader),
+        Heading::Loose => loose_words(tables, row, reader),
         Heading::Nothing => table_words(tables, true, row, reader),
         _ => setting(heading, row, reader),
     }
@@ -190,7 +225,7 @@ fn take(tables: &mut [u64; TABLE_WORDS], heading: Heading, row: Row, reader: Rea
 fn table_heading(text: &[u8], table: Table, at: usize, end: usize, reader: Reader) -> Reader {
     let more = word_at(text, at, end);
     if more.start < more.end {
-        return reader.troubled(Trouble::Count);
+        return reader.troubled(Trouble::NotAlone);
     }
     reader.headed(table)
 }
@@ -198,7 +233,6 @@ fn table_heading(text: &[u8], table: Table, at: usize, end: usize, reader: Reade
 // The heading whose words stand on the line.
 fn under(heading: Heading, reader: Reader) -> Heading {
     match heading {
-        Heading::Loose => reader.heading,
         Heading::Nothing => reader.heading,
         _ => heading,
     }
@@ -212,6 +246,32 @@ fn first_place(heading: Heading, word: Word) -> usize {
     }
 }
 
+// A row, or a line that begins with a heading and has words.
+fn read_words(
+    text: &[u8],
+    names: &mut [u64; NAME_WORDS],
+    tables: &mut [u64; TABLE_WORDS],
+    heading: Heading,
+    at: usize,
+    end: usize,
+    reader: Reader,
+) -> Reader {
+    let current = reader.heading;
+    if heading.fills_table() & current.is_nothing() {
+        return reader.troubled(Trouble::NoHeading);
+    }
+    let row = read_row(
+        text,
+        names,
+        under(heading, reader),
+        at,
+        end,
+        reader.names,
+        reader.numbered,
+    );
+    take(tables, heading, row, reader.after(row))
+}
+
 fn read_line(
     text: &[u8],
     names: &mut [u64; NAME_WORDS],
@@ -223,19 +283,23 @@ fn read_line(
     if word.start >= word.end {
         return reader;
     }
+    let next = reader.at(word);
+    if has_comment(text, word) {
+        return next.troubled(Trouble::Word(Fault::Comment));
+    }
     let heading = heading_of(part(text, word.start, word.end));
     if let Heading::Of(table) = heading {
-        return table_heading(text, table, word.end, line.end, reader);
+        return table_heading(text, table, word.end, line.end, next);
     }
-    let row = read_row(
+    read_words(
         text,
         names,
-        under(heading, reader),
+        tables,
+        heading,
         first_place(heading, word),
         line.end,
-        reader.names,
-    );
-    take(tables, heading, row, reader.named(row))
+        next,
+    )
 }
 
 // Reads up to the first line that is not taken. No line is shorter than a byte.

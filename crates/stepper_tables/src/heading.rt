@@ -32,7 +32,7 @@ pub enum Heading {
     Nothing,
 }
 
-const HEADINGS: [u8; 95] =
+pub const HEADINGS: [u8; 95] =
     *b"regions externs parameters nodes arguments instructions memory journal cell entry position word";
 
 impl Table {
@@ -51,7 +51,9 @@ impl Table {
     }
 
     // Words in a row.
-    pub fn width(self) -> usize {
+    pub fn width(self) -> usize
+        ensures { λ r. ⌜ 0 < r ⌝ }
+    {
         match self {
             Table::Regions => REGION_WIDTH,
             Table::Externs => EXTERN_WIDTH,
@@ -64,6 +66,22 @@ impl Table {
 }
 
 impl Heading {
+    pub fn is_nothing(self) -> bool {
+        match self {
+            Heading::Nothing => true,
+            _ => false,
+        }
+    }
+
+    // Whether its line has words of the table whose heading came last.
+    pub fn fills_table(self) -> bool {
+        match self {
+            Heading::Loose => true,
+            Heading::Nothing => true,
+            _ => false,
+        }
+    }
+
     // Words on its line, where it is no table's: a number comes before a cell's and an entry's.
     pub fn width(self) -> usize {
         match self {

@@ -1,4 +1,5 @@
 // Lists in one text: words with blanks between them, or lines.
+use script::line::byte_at;
 use script::line::line_at;
 use script::line::part;
 use script::line::same;
@@ -38,7 +39,38 @@ pub fn line_of(list: &[u8], place: u64) -> &[u8] {
     part(list, line.start, line.end)
 }
 
-pub fn index_of(list: &[u8], word: &[u8]) -> Listed {
+// A letter as a small one.
+fn small(byte: u8) -> u8 {
+    match byte {
+        b'A'..=b'Z' => byte + 32,
+        _ => byte,
+    }
+}
+
+// Whether two texts are the same but for small and capital letters.
+fn same_letters(a: &[u8], b: &[u8]) -> bool {
+    if a.len() != b.len() {
+        return false;
+    }
+    let mut i = 0;
+    while i < a.len() {
+        if small(byte_at(a, i)) != small(byte_at(b, i)) {
+            return false;
+        }
+        i += 1;
+    }
+    true
+}
+
+fn is_item(item: &[u8], word: &[u8], any_case: bool) -> bool {
+    if any_case {
+        return same_letters(item, word);
+    }
+    same(item, word)
+}
+
+// Where a word stands in a list, in the list's letters or in small and capital ones alike.
+pub fn find(list: &[u8], word: &[u8], any_case: bool) -> Listed {
     let mut at = 0;
     let mut place = 0;
     while place < list.len() {
@@ -46,11 +78,15 @@ pub fn index_of(list: &[u8], word: &[u8]) -> Listed {
         if here.start >= here.end {
             break;
         }
-        if same(part(list, here.start, here.end), word) {
+        if is_item(part(list, here.start, here.end), word, any_case) {
             return Listed::At(place);
         }
         at = here.end;
         place += 1;
     }
     Listed::Absent
+}
+
+pub fn index_of(list: &[u8], word: &[u8]) -> Listed {
+    find(list, word, false)
 }

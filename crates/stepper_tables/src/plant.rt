@@ -40,15 +40,16 @@ fn put_entry(journal: &mut [u64], words: [u64; ROW_WORDS]) {
     }
 }
 
-// The words after the heading.
+// The words after the heading, none of them a name.
 fn words_after(
     text: &[u8],
     names: &mut [u64; NAME_WORDS],
     known_names: usize,
+    heading: Heading,
     at: usize,
     end: usize,
 ) -> [u64; ROW_WORDS] {
-    let row = read_row(text, names, Heading::Cell, at, end, known_names);
+    let row = read_row(text, names, heading, at, end, known_names, false);
     let words = row.words;
     words
 }
@@ -68,19 +69,19 @@ fn plant_line(
         Heading::Cell => {
             put_cell(
                 memory,
-                words_after(text, names, known_names, word.end, line.end),
+                words_after(text, names, known_names, heading, word.end, line.end),
             );
             position
         }
         Heading::Entry => {
             put_entry(
                 journal,
-                words_after(text, names, known_names, word.end, line.end),
+                words_after(text, names, known_names, heading, word.end, line.end),
             );
             position
         }
         Heading::Position => {
-            let words = words_after(text, names, known_names, word.end, line.end);
+            let words = words_after(text, names, known_names, heading, word.end, line.end);
             Position {
                 done: words[0] as usize,
                 used: words[1] as usize,

@@ -2,24 +2,34 @@
 ghost use mathlib.Core.Path.{_≡_};
 ghost use Prim.Native.Nat.{_≤_, _<_};
 use crate::heading::Heading;
+use crate::heading::Table;
 use crate::names::MOST_NAMES;
 use crate::names::NAME_WORDS;
 use crate::names::keep;
 use crate::names::known;
+use crate::place::Place;
+use crate::place::place_of;
 use crate::word::Fault;
 use crate::word::Value;
 use crate::word::read_word;
 use script::line::Word;
+use script::line::byte_at;
 use script::line::part;
 use script::line::word_at;
+use words::kind::REAL;
 
-// Why a line is not taken.
+// Why a line is not taken. A row of another number of words than its table's has the table.
 pub enum Trouble {
     Word(Fault),
+    RowOf(Table),
     Count,
     NoHeading,
+    NotAlone,
     TooManyRows,
     TooManyNames,
+    NamesAreTexts,
+    NamesAreNumbers,
+    LooseWords,
 }
 
 pub enum Outcome {
@@ -38,21 +48,25 @@ impl Outcome {
 
 pub const ROW_WORDS: usize = 16;
 
-// The words, how many, how many names are known after them, and whether they are taken.
+// The words, how many, how many names are known as texts after them, whether a name was written as a number, the word of the text that was read last, and whether all is taken.
 pub struct Row {
     pub words: [u64; ROW_WORDS],
     pub count: usize,
     pub names: usize,
+    pub numbered: bool,
+    pub word: Word,
     pub outcome: Outcome,
 }
 
-fn empty(names: usize) -> Row
+fn empty(names: usize, numbered: bool) -> Row
     ensures { λ r. ⌜ r .count ≡ 0 ⌝ }
 {
     Row {
         words: [0; ROW_WORDS],
         count: 0,
         names,
+        numbered,
+        word: Word { start: 0, end: 0 },
         outcome: Outcome::Taken,
     }
 }
@@ -68,25 +82,33 @@ impl Row {
             return self.troubled(Trouble::Count);
         }
         words[count] = word;
-        let outcome = self.outcome;
-        Row {
-            words,
-            count: count + 1,
-            names: self.names,
-            outcome,
-        }
+        let mut next = self;
+        next.words = words;
+        next.count = count + 1;
+        next
     }
 
     fn troubled(self, trouble: Trouble) -> Row
         ensures { λ r. ⌜ r .count ≡ self .count ⌝ }
     {
         let words = self.words;
+        let word = self.word;
         Row {
             words,
             count: self.count,
             names: self.names,
+            numbered: self.numbered,
+            word,
             outcome: Outcome::Not(trouble),
         }
+    }
+
+    fn at(self, word: Word) -> Row
+        ensures { λ r. ⌜ r .count ≡ self .count ⌝ }
+    {
+        let mut next = self;
+        next.word = word;
+        next
     }
 
     fn knowing(self, names: usize) -> Row
@@ -96,6 +118,19 @@ impl Row {
         next.names = names;
         next
     }
+
+    // A name as a number: in a file whose names are texts it would mean whichever text came at that place.
+    fn with_number(self, name: u64) -> Row
+        requires { ⌜ self .count ≤ 16 ⌝ }
+        ensures { λ r. ⌜ r .count ≤ 16 ⌝ }
+    {
+        if self.names > 0 {
+            return self.troubled(Trouble::NamesAreTexts);
+        }
+        let mut next = self;
+        next.numbered = true;
+        next.with(name)
+    }
 }
 
 // A name gets the number that it has, or the next one.
@@ -103,6 +138,9 @@ fn name(text: &[u8], names: &mut [u64; NAME_WORDS], word: Word, row: Row) -> Row
     requires { ⌜ row .count ≤ 16 ⌝ }
     ensures { λ r. ⌜ r .count ≤ 16 ⌝ }
 {
+    if row.numbered {
+        return row.troubled(Trouble::NamesAreNumbers);
+    }
     let n = known(text, names, row.names, part(text, word.start, word.end));
     if n < row.names {
         return row.with(n as u64);
@@ -114,16 +152,49 @@ fn name(text: &[u8], names: &mut [u64; NAME_WORDS], word: Word, row: Row) -> Row
     row.knowing(n + 1).with(n as u64)
 }
 
+// The word of a cell is a REAL where the cell's kind is.
+fn cell_place(kind: u64, column: usize) -> Place {
+    match column {
+        1 => Place::Kind,
+        2 => if kind == REAL {
+            Place::Real
+        } else {
+            Place::Whole
+        },
+        _ => Place::Whole,
+    }
+}
+
+fn place_under(heading: Heading, words: [u64; ROW_WORDS], column: usize) -> Place {
+    match heading {
+        Heading::Of(table) => place_of(table, words, column),
+        Heading::Cell => cell_place(words[1], column),
+        _ => Place::Whole,
+    }
+}
+
+// Whether a comment begins in the middle of a word.
+pub fn has_comment(text: &[u8], word: Word) -> bool {
+    byte_at(text, word.end) == b'#'
+}
+
 fn add(text: &[u8], names: &mut [u64; NAME_WORDS], heading: Heading, word: Word, row: Row) -> Row
     requires { ⌜ row .count ≤ 16 ⌝ }
     ensures { λ r. ⌜ r .count ≤ 16 ⌝ }
 {
-    let value = read_word(part(text, word.start, word.end), heading);
+    let read = row.at(word);
+    if has_comment(text, word) {
+        return read.troubled(Trouble::Word(Fault::Comment));
+    }
+    let words = row.words;
+    let place = place_under(heading, words, row.count);
+    let value = read_word(part(text, word.start, word.end), place);
     match value {
-        Value::One(first) => row.with(first),
-        Value::Two(first, second) => row.with(first).with(second),
-        Value::Name => name(text, names, word, row),
-        Value::Not(fault) => row.troubled(Trouble::Word(fault)),
+        Value::One(first) => read.with(first),
+        Value::Two(first, second) => read.with(first).with(second),
+        Value::Name => name(text, names, word, read),
+        Value::Numbered(n) => read.with_number(n),
+        Value::Not(fault) => read.troubled(Trouble::Word(fault)),
     }
 }
 
@@ -135,10 +206,11 @@ pub fn read_row(
     at: usize,
     end: usize,
     known_names: usize,
+    numbered: bool,
 ) -> Row
     ensures { λ r. ⌜ r .count ≤ 16 ⌝ }
 {
-    let mut row = empty(known_names);
+    let mut row = empty(known_names, numbered);
     let mut place = at;
     let mut turns = ROW_WORDS + 1;
     while turns > 0 {

@@ -1,23 +1,27 @@
-// One word of a file.
-use crate::heading::Heading;
-use crate::heading::Table;
+// One word of a file, read by its place.
 use crate::list::Listed;
-use crate::list::index_of;
-use crate::vocabulary::MNEMONICS;
+use crate::place::Place;
+use crate::vocabulary::Operation;
+use crate::vocabulary::is_reserved;
 use crate::vocabulary::number_of;
+use crate::vocabulary::operation_of;
 use real_text::decimal::read_decimal;
 use script::line::byte_at;
-use script::line::line_at;
-use script::line::part;
 use script::line::same;
 use script::number::read_number;
-use tables::family;
 
-// Why a word is not taken.
+// Why a word is not taken. A place says what is needed there; a mnemonic in small letters has its family and operator.
 pub enum Fault {
     NoWord,
     TooLarge,
     TooManyDigits,
+    Exponent,
+    NoPoint,
+    Reserved,
+    Capitals(u64, u64),
+    Operation(Place),
+    Expected(Place),
+    Comment,
 }
 
 // A word as a number.
@@ -26,11 +30,12 @@ pub enum Written {
     Not(Fault),
 }
 
-// What a word gives: one number, two of them, a name.
+// What a word gives: one number, two of them, a name as a text, a name as a number.
 pub enum Value {
     One(u64),
     Two(u64, u64),
     Name,
+    Numbered(u64),
     Not(Fault),
 }
 
@@ -49,10 +54,10 @@ fn starts_number(word: &[u8]) -> bool {
     is_digit(byte) | ((byte == b'-') | (byte == b'.'))
 }
 
-fn has_point(word: &[u8]) -> bool {
+fn has(word: &[u8], byte: u8) -> bool {
     let mut i = 0;
     while i < word.len() {
-        if byte_at(word, i) == b'.' {
+        if byte_at(word, i) == byte {
             return true;
         }
         i += 1;
@@ -92,67 +97,144 @@ pub fn integer(word: &[u8]) -> Written {
     }
 }
 
-// A word that begins as a number does; `-` alone is an unused word.
-fn number(word: &[u8]) -> Written {
-    if same(word, b"-") {
-        return Written::Word(0);
-    }
-    if has_point(word) {
-        return decimal(word);
-    }
-    integer(word)
-}
-
-fn one(number: Written) -> Value {
-    match number {
-        Written::Word(word) => Value::One(word),
-        Written::Not(fault) => Value::Not(fault),
+// A word that is no number at all says what is needed instead.
+fn instead(fault: Fault, place: Place) -> Fault {
+    match fault {
+        Fault::NoWord => Fault::Expected(place),
+        _ => fault,
     }
 }
 
-// The family and operator of a mnemonic; any other word is a name.
-fn operation(mnemonics: &[u8], word: &[u8]) -> Value {
-    let mut at = 0;
-    let mut family = 0;
-    while family <= family::OTHER {
-        let line = line_at(mnemonics, at);
-        let listed = index_of(part(mnemonics, line.start, line.end), word);
-        if let Listed::At(operator) = listed {
-            return Value::Two(family, operator as u64);
-        }
-        at = line.next;
-        family += 1;
-    }
-    Value::Name
-}
-
-// Mnemonics stand among the instructions.
-fn in_table(table: Table, word: &[u8]) -> Value {
-    let mnemonics = MNEMONICS;
-    match table {
-        Table::Instructions => operation(&mnemonics, word),
-        _ => Value::Name,
+fn whole(word: &[u8], place: Place) -> Value {
+    let written = integer(word);
+    match written {
+        Written::Word(n) => Value::One(n),
+        Written::Not(fault) => Value::Not(instead(fault, place)),
     }
 }
 
-// A word that is no number and stands for none in its place.
-fn named(heading: Heading, word: &[u8]) -> Value {
-    if !is_name(word) {
-        return Value::Not(Fault::NoWord);
-    }
-    match heading {
-        Heading::Of(table) => in_table(table, word),
-        _ => Value::Name,
+// A word that is no number and none of its place's.
+fn stranger(word: &[u8], place: Place) -> Value {
+    let operation = operation_of(word, true);
+    match operation {
+        Operation::Of(_, _) => Value::Not(Fault::Operation(place)),
+        Operation::Absent => Value::Not(Fault::Expected(place)),
     }
 }
 
-pub fn read_word(word: &[u8], heading: Heading) -> Value {
+fn name_number(word: &[u8]) -> Value {
+    let value = whole(word, Place::Name);
+    match value {
+        Value::One(n) => Value::Numbered(n),
+        _ => value,
+    }
+}
+
+fn name_text(word: &[u8]) -> Value {
+    if is_reserved(word) {
+        return Value::Not(Fault::Reserved);
+    }
+    let operation = operation_of(word, true);
+    match operation {
+        Operation::Of(_, _) => Value::Not(Fault::Operation(Place::Name)),
+        Operation::Absent => Value::Name,
+    }
+}
+
+fn name(word: &[u8]) -> Value {
     if starts_number(word) {
-        return one(number(word));
+        return name_number(word);
     }
-    let listed = number_of(heading, word);
-    match listed {
+    if is_name(word) {
+        return name_text(word);
+    }
+    Value::Not(Fault::Expected(Place::Name))
+}
+
+// A mnemonic in other letters than capitals is told so.
+fn no_operation(word: &[u8]) -> Fault {
+    let operation = operation_of(word, true);
+    match operation {
+        Operation::Of(family, operator) => Fault::Capitals(family, operator),
+        Operation::Absent => Fault::Expected(Place::Operation),
+    }
+}
+
+fn operation(word: &[u8]) -> Value {
+    if starts_number(word) {
+        return whole(word, Place::Operation);
+    }
+    let operation = operation_of(word, false);
+    match operation {
+        Operation::Of(family, operator) => Value::Two(family, operator),
+        Operation::Absent => Value::Not(no_operation(word)),
+    }
+}
+
+fn no_decimal(fault: Fault, word: &[u8]) -> Fault {
+    if has(word, b'e') | has(word, b'E') {
+        return Fault::Exponent;
+    }
+    instead(fault, Place::Real)
+}
+
+fn short_decimal(word: &[u8]) -> Value {
+    let written = decimal(word);
+    match written {
+        Written::Word(bits) => Value::One(bits),
+        Written::Not(fault) => Value::Not(no_decimal(fault, word)),
+    }
+}
+
+// Digits without a point could mean the value or the bits.
+fn pointless(word: &[u8]) -> Value {
+    let value = whole(word, Place::Real);
+    if byte_at(word, 1) == b'x' {
+        return value;
+    }
+    match value {
+        Value::Not(fault) => Value::Not(no_decimal(fault, word)),
+        _ => Value::Not(Fault::NoPoint),
+    }
+}
+
+fn real(word: &[u8]) -> Value {
+    if !starts_number(word) {
+        return stranger(word, Place::Real);
+    }
+    if has(word, b'.') {
+        return short_decimal(word);
+    }
+    pointless(word)
+}
+
+// A word of the place's list, or a whole number.
+fn listed(word: &[u8], place: Place) -> Value {
+    if starts_number(word) {
+        return whole(word, place);
+    }
+    let number = number_of(place, word);
+    match number {
         Listed::At(n) => Value::One(n as u64),
-        Listed::Absent => named(heading, word),
+        Listed::Absent => stranger(word, place),
+    }
+}
+
+fn dash(place: Place) -> Value {
+    match place {
+        Place::Unused => Value::One(0),
+        _ => Value::Not(Fault::Expected(place)),
+    }
+}
+
+pub fn read_word(word: &[u8], place: Place) -> Value {
+    if same(word, b"-") {
+        return dash(place);
+    }
+    match place {
+        Place::Name => name(word),
+        Place::Operation => operation(word),
+        Place::Real => real(word),
+        _ => listed(word, place),
     }
 }

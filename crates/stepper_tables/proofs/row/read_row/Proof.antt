@@ -5,10 +5,10 @@ use Rattle.stepper_tables.proofs.row.read_row.Statement.{statement}
 use Rattle.stepper_tables.proofs.row.read_row.Tie as tie
 
 abbrev Inv-loop : tie.InvT-loop
-Inv-loop text names₀ heading at end known-names row₀ place₀ turns₀ names row place turns = row .count ≤ 16
+Inv-loop text names₀ heading at end known-names numbered row₀ place₀ turns₀ names row place turns = row .count ≤ 16
 
 abbrev μ-loop : tie.MeasureT-loop
-μ-loop text names₀ heading at end known-names row₀ place₀ turns₀ names row place turns = turns
+μ-loop text names₀ heading at end known-names numbered row₀ place₀ turns₀ names row place turns = turns
 
 empty-requires : tie.Need-empty-requires Inv-loop μ-loop
 empty-requires c κs = search needs

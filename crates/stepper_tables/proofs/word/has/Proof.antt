@@ -1,15 +1,15 @@
--- `stepper_tables::word::has_point` is safe and ends. Assumes nothing.
+-- `stepper_tables::word::has` is safe and ends. Assumes nothing.
 use Prim.Native.Nat.{_-_}
 use lib.ListN.{length}
 use borrow.Author.Needs.{needs}
-use Rattle.stepper_tables.proofs.word.has_point.Statement.{statement}
-use Rattle.stepper_tables.proofs.word.has_point.Tie as tie
+use Rattle.stepper_tables.proofs.word.has.Statement.{statement}
+use Rattle.stepper_tables.proofs.word.has.Tie as tie
 
 abbrev Inv-loop : tie.InvT-loop
-Inv-loop word i₀ i = Unit {0}
+Inv-loop word byte i₀ i = Unit {0}
 
 abbrev μ-loop : tie.MeasureT-loop
-μ-loop word i₀ i = length word - i
+μ-loop word byte i₀ i = length word - i
 
 loop-holds : tie.Need-loop-holds Inv-loop μ-loop
 loop-holds c = search needs
@@ -32,8 +32,8 @@ loop-again c = search needs
 returns-2 : tie.Need-returns-2 Inv-loop μ-loop
 returns-2 c = search needs
 
-pub has-point-spec : {M : Type 1} → statement M
-has-point-spec =
+pub has-spec : {M : Type 1} → statement M
+has-spec =
     tie.close
     (tie.spec
     Inv-loop

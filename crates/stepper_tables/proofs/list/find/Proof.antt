@@ -1,15 +1,15 @@
--- `stepper_tables::list::index_of` is safe and ends. Assumes nothing.
+-- `stepper_tables::list::find` is safe and ends. Assumes nothing.
 use Prim.Native.Nat.{_-_}
 use lib.ListN.{length}
 use borrow.Author.Needs.{needs}
-use Rattle.stepper_tables.proofs.list.index_of.Statement.{statement}
-use Rattle.stepper_tables.proofs.list.index_of.Tie as tie
+use Rattle.stepper_tables.proofs.list.find.Statement.{statement}
+use Rattle.stepper_tables.proofs.list.find.Tie as tie
 
 abbrev Inv-loop : tie.InvT-loop
-Inv-loop list word at₀ place₀ at place = Unit {0}
+Inv-loop list word any-case at₀ place₀ at place = Unit {0}
 
 abbrev μ-loop : tie.MeasureT-loop
-μ-loop list word at₀ place₀ at place = length list - place
+μ-loop list word any-case at₀ place₀ at place = length list - place
 
 loop-holds : tie.Need-loop-holds Inv-loop μ-loop
 loop-holds c = search needs
@@ -20,8 +20,8 @@ word-at-requires c κs = search needs
 part-requires : tie.Need-part-requires Inv-loop μ-loop
 part-requires c κs = search needs
 
-same-requires : tie.Need-same-requires Inv-loop μ-loop
-same-requires c κs = search needs
+is-item-requires : tie.Need-is-item-requires Inv-loop μ-loop
+is-item-requires c κs = search needs
 
 returns : tie.Need-returns Inv-loop μ-loop
 returns c = search needs
@@ -41,8 +41,8 @@ returns-2 c = search needs
 returns-3 : tie.Need-returns-3 Inv-loop μ-loop
 returns-3 c = search needs
 
-pub index-of-spec : {M : Type 1} → statement M
-index-of-spec =
+pub find-spec : {M : Type 1} → statement M
+find-spec =
     tie.close
     (tie.spec
     Inv-loop
@@ -50,7 +50,7 @@ index-of-spec =
     loop-holds
     word-at-requires
     part-requires
-    same-requires
+    is-item-requires
     returns
     add-place
     loop-less

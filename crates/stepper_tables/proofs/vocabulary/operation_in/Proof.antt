@@ -1,14 +1,14 @@
--- `stepper_tables::word::operation` is safe and ends. Assumes nothing.
+-- `stepper_tables::vocabulary::operation_in` is safe and ends. Assumes nothing.
 use Prim.Native.Nat.{_-_}
 use borrow.Author.Needs.{needs}
-use Rattle.stepper_tables.proofs.word.operation.Statement.{statement}
-use Rattle.stepper_tables.proofs.word.operation.Tie as tie
+use Rattle.stepper_tables.proofs.vocabulary.operation_in.Statement.{statement}
+use Rattle.stepper_tables.proofs.vocabulary.operation_in.Tie as tie
 
 abbrev Inv-loop : tie.InvT-loop
-Inv-loop mnemonics word at₀ family₀ at family = Unit {0}
+Inv-loop mnemonics word any-case at₀ family₀ at family = Unit {0}
 
 abbrev μ-loop : tie.MeasureT-loop
-μ-loop mnemonics word at₀ family₀ at family = 11 - family
+μ-loop mnemonics word any-case at₀ family₀ at family = 11 - family
 
 loop-holds : tie.Need-loop-holds Inv-loop μ-loop
 loop-holds c = search needs
@@ -19,8 +19,8 @@ line-at-requires c κs = search needs
 part-requires : tie.Need-part-requires Inv-loop μ-loop
 part-requires c κs = search needs
 
-index-of-requires : tie.Need-index-of-requires Inv-loop μ-loop
-index-of-requires c κs = search needs
+find-requires : tie.Need-find-requires Inv-loop μ-loop
+find-requires c κs = search needs
 
 enum-known-listed : tie.Need-enum-known-listed Inv-loop μ-loop
 enum-known-listed c = search needs
@@ -43,8 +43,8 @@ loop-again c = search needs
 returns-2 : tie.Need-returns-2 Inv-loop μ-loop
 returns-2 c = search needs
 
-pub operation-spec : {M : Type 1} → statement M
-operation-spec =
+pub operation-in-spec : {M : Type 1} → statement M
+operation-in-spec =
     tie.close
     (tie.spec
     Inv-loop
@@ -52,7 +52,7 @@ operation-spec =
     loop-holds
     line-at-requires
     part-requires
-    index-of-requires
+    find-requires
     enum-known-listed
     returns
     enum-told
