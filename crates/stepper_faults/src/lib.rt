@@ -3,6 +3,7 @@ pub mod allowed;
 pub mod fault;
 pub mod find;
 pub mod name;
+pub mod range;
 pub mod row;
 pub mod shape;
 pub mod tell;

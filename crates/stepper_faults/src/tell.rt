@@ -12,6 +12,7 @@ use stepper_screen::print::line;
 use stepper_screen::print::number;
 use stepper_screen::print::text;
 use stepper_screen::view::View;
+use stepper_tables::heading::HEADINGS;
 use stepper_tables::heading::Table;
 use stepper_tables::list::item;
 use stepper_tables::list::line_of;
@@ -27,10 +28,8 @@ use stepper_tables::vocabulary::NODES;
 const NAME_BYTES: usize = 24;
 
 fn heading(table: Table) {
-    line(
-        b"regions\nexterns\nparameters\nnodes\narguments\ninstructions",
-        table.number() as u64,
-    );
+    let headings = HEADINGS;
+    text(item(&headings, table.number() as u64));
 }
 
 // A number with a comma before its last three digits.

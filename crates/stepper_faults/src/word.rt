@@ -1,9 +1,9 @@
-// Refusal 2: the first row that the library does not allow, and in it the first word that its place does not allow, or else the rows that it asks for.
+// Refusal 2: the first row that the library does not allow, and in it the first word that its place does not allow, or else what it asks for.
 ghost use Prim.Native.Nat.{_<_};
 use crate::allowed::words_at;
-use crate::fault::Range;
 use crate::fault::Row;
 use crate::fault::Where;
+use crate::range::asked_for;
 use crate::row::next_row;
 use crate::row::row_from;
 use crate::row::whole_row;
@@ -17,7 +17,6 @@ use stepper_tables::heading::Table;
 use stepper_tables::names::word_of;
 use stepper_tables::place::place_of;
 use stepper_tables::row::ROW_WORDS;
-use tables::family;
 use tables::rows::ARGUMENT_WIDTH;
 use tables::rows::EXTERN_WIDTH;
 use tables::rows::INSTRUCTION_WIDTH;
@@ -25,8 +24,6 @@ use tables::rows::NODE_LIMIT;
 use tables::rows::NODE_WIDTH;
 use tables::rows::PARAMETER_WIDTH;
 use tables::rows::REGION_WIDTH;
-use tables::tree::one_tree;
-use tables::tree::range_inside;
 
 // A table of one instruction, by the library's rule, which looks at the nodes too: they are within their limit and allowed.
 fn instruction_allowed(row: &[u64], nodes: &[u64], arguments: usize) -> bool {
@@ -91,73 +88,6 @@ fn bad_word(table: Table, words: [u64; ROW_WORDS], width: usize) -> usize {
         column += 1;
     }
     width
-}
-
-// What a row asks for, where it lies outside its table; else the row.
-fn outside(row: Row, range: Range) -> Where {
-    if range_inside(range.first, range.count, range.rows) {
-        return Where::Whole(row);
-    }
-    Where::Outside(row, range)
-}
-
-// How many rows from `first` on, fewer than `count`, are one tree; 0 where none are.
-fn tree_rows(nodes: &[u64], first: u64, count: u64) -> u64 {
-    let mut rows = 0;
-    while rows < count {
-        if one_tree(nodes, first, rows) {
-            return rows;
-        }
-        rows += 1;
-    }
-    0
-}
-
-// A frame's nodes.
-fn tree(row: Row, range: Range, nodes: &[u64]) -> Where {
-    let found = outside(row, range);
-    if found.is_outside() | one_tree(nodes, range.first, range.count) {
-        return found;
-    }
-    Where::NotOneTree(row, range, tree_rows(nodes, range.first, range.count))
-}
-
-fn range(first: u64, count: u64, table: Table, rows: usize) -> Range {
-    Range {
-        first,
-        count,
-        table,
-        rows,
-    }
-}
-
-fn instruction_asks(row: Row, words: [u64; ROW_WORDS], nodes: &[u64], arguments: usize) -> Where {
-    let family = words[0];
-    let rows = nodes.len() / NODE_WIDTH;
-    match family {
-        family::FRAME => tree(row, range(words[2], words[3], Table::Nodes, rows), nodes),
-        family::CALL => outside(row, range(words[3], words[4], Table::Arguments, arguments)),
-        _ => Where::Whole(row),
-    }
-}
-
-// What a row asks for: an extern its parameters, a frame its nodes, a CALL its arguments.
-fn asked_for(
-    row: Row,
-    words: [u64; ROW_WORDS],
-    nodes: &[u64],
-    parameters: usize,
-    arguments: usize,
-) -> Where {
-    let table = row.table;
-    match table {
-        Table::Externs => outside(
-            row,
-            range(words[2], words[3], Table::Parameters, parameters),
-        ),
-        Table::Instructions => instruction_asks(row, words, nodes, arguments),
-        _ => Where::Whole(row),
-    }
 }
 
 fn find_in(

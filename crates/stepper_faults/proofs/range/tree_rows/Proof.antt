@@ -1,8 +1,8 @@
--- `stepper_faults::word::tree_rows` is safe and ends. Assumes nothing.
+-- `stepper_faults::range::tree_rows` is safe and ends. Assumes nothing.
 use Prim.Native.Nat.{_-_}
 use borrow.Author.Needs.{needs}
-use Rattle.stepper_faults.proofs.word.tree_rows.Statement.{statement}
-use Rattle.stepper_faults.proofs.word.tree_rows.Tie as tie
+use Rattle.stepper_faults.proofs.range.tree_rows.Statement.{statement}
+use Rattle.stepper_faults.proofs.range.tree_rows.Tie as tie
 
 abbrev Inv-loop : tie.InvT-loop
 Inv-loop nodes first count rows₀ rows = Unit {0}
