@@ -1,9 +1,11 @@
-// A CALL in words: its resolved arguments, or why it does not resolve.
+// Why open refused a program, in words; a CALL's resolved arguments, or why it does not resolve.
 use crate::state::Desk;
 use extern_call::rows::ERROR_WIDTH;
 use extern_call::rows::ResolveAnswer;
 use stepper_calls::resolve_row;
 use stepper_calls::table;
+use stepper_faults::find::find;
+use stepper_faults::tell::tell;
 use stepper_screen::errors::show_errors;
 use stepper_screen::print::byte;
 use stepper_screen::print::text;
@@ -18,6 +20,9 @@ use tables::family::CALL;
 use tables::refusal::ARGUMENT_COUNT;
 use tables::refusal::ARGUMENT_ERRORS;
 use tables::refusal::EXTERN_NOT_FOUND;
+use tables::refusal::NAME_TWICE;
+use tables::refusal::TABLE_SHAPE;
+use tables::refusal::WORD_NOT_ALLOWED;
 use tables::rows::INSTRUCTION_WIDTH;
 use tables::rows::Instruction;
 use tables::rows::PARAMETER_LIMIT;
@@ -149,7 +154,29 @@ fn explain_call(
     }
 }
 
-// Where open refused a CALL.
+// Where the tables are refused, by 1, 2 or 3.
+fn explain_tables(
+    source: &[u8],
+    names: &[u64; NAME_WORDS],
+    tables: &[u64; TABLE_WORDS],
+    desk: Desk,
+    refusal: u64,
+) {
+    let lengths = desk.lengths;
+    let at = find(
+        refusal,
+        table(tables, Table::Regions, lengths),
+        table(tables, Table::Externs, lengths),
+        table(tables, Table::Parameters, lengths),
+        table(tables, Table::Nodes, lengths),
+        table(tables, Table::Arguments, lengths),
+        table(tables, Table::Instructions, lengths),
+    );
+    let words = table(tables, at.table(), lengths);
+    tell(source, names, desk.view, at, words);
+}
+
+// Where open refused the tables or a CALL.
 pub fn explain_open(
     source: &[u8],
     names: &[u64; NAME_WORDS],
@@ -158,6 +185,9 @@ pub fn explain_open(
     refusal: u64,
 ) {
     match refusal {
+        TABLE_SHAPE | WORD_NOT_ALLOWED | NAME_TWICE => {
+            explain_tables(source, names, tables, desk, refusal)
+        }
         EXTERN_NOT_FOUND | ARGUMENT_COUNT => explain_call(source, names, tables, desk, false),
         ARGUMENT_ERRORS => explain_call(source, names, tables, desk, true),
         _ => {}

@@ -6,8 +6,10 @@ use crate::refusal::cause;
 use crate::refusal::mender;
 use tables::refusal::ARGUMENT_ERRORS;
 use tables::refusal::FOREIGN_POSITION;
+use tables::refusal::NAME_TWICE;
 use tables::refusal::TABLE_SHAPE;
 use tables::refusal::TYPE_ERROR;
+use tables::refusal::WORD_NOT_ALLOWED;
 
 // A line for each number; there is no refusal 0.
 fn calls(refusal: u64) {
@@ -36,9 +38,14 @@ fn calls(refusal: u64) {
     );
 }
 
-// Each kind of type error and of argument error has an example of its own.
+// Each kind of place, of type error and of argument error has an example of its own.
 fn more(refusal: u64) {
     match refusal {
+        TABLE_SHAPE => text(b"- A table over its limit: `examples/refusal-1-limit.tables`\n"),
+        WORD_NOT_ALLOWED => text(
+            b"- An unused word that is not 0: `examples/refusal-2-unused.tables`; a range outside its table: `-range.tables`; not exactly one tree: `-tree.tables`\n",
+        ),
+        NAME_TWICE => text(b"- Two externs: `examples/refusal-3-externs.tables`\n"),
         TYPE_ERROR => text(
             b"- Type error 1, an operand is not declared; 2, kinds differ; 3, a frame needs a real value; 4, the operator does not take the operand: `examples/type-error-1.tables` to `-4.tables`\n",
         ),
@@ -76,7 +83,8 @@ fn intro() {
     text(
         b"# What is turned down, and why\n\n\
         A program, a key or a reply is turned down for one of nineteen causes, and for no other. \
-        A call looks for them in its order and gives the first; what it is lent stays as it was, but for resolve, which writes its error rows with 8.\n\n\
+        A call looks for them in its order and gives the first; what it is lent stays as it was, but for resolve, which writes its error rows with 8. \
+        Of 1, 2 and 3 the console names the table, and the row and the word or both rows.\n\n\
         | call | looks for, in this order |\n\
         |---|---|\n\
         | check | 1, 2, 3, 5 |\n\

@@ -20,7 +20,7 @@ pub fn cause(refusal: u64) {
     line(
         b"\n\
         a table is not whole rows, or has more rows than its limit\n\
-        a word is not allowed where it stands, a range lies outside its table, or the chosen row is absent or of another family\n\
+        a word is not allowed where it stands, a range lies outside its table or is not exactly one tree, or the chosen row is absent or of another family\n\
         two regions or two externs have one name\n\
         a lent buffer is too short, or the journal is not whole entries or too long\n\
         the program has a type error\n\

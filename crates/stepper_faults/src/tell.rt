@@ -1,0 +1,258 @@
+// Where a refusal lies, in words. No line is longer than 80 columns, whatever the words are.
+use crate::allowed::Allowed;
+use crate::allowed::words_at;
+use crate::fault::Range;
+use crate::fault::Row;
+use crate::fault::Where;
+use crate::row::row_from;
+use crate::row::whole_row;
+use script::line::part;
+use stepper_screen::print::byte;
+use stepper_screen::print::line;
+use stepper_screen::print::number;
+use stepper_screen::print::text;
+use stepper_screen::view::View;
+use stepper_tables::heading::HEADINGS;
+use stepper_tables::heading::Table;
+use stepper_tables::list::item;
+use stepper_tables::list::line_of;
+use stepper_tables::names::NAME_WORDS;
+use stepper_tables::names::place_of;
+use stepper_tables::names::word_of;
+use stepper_tables::place;
+use stepper_tables::row::ROW_WORDS;
+use stepper_tables::vocabulary::MNEMONICS;
+use stepper_tables::vocabulary::NODES;
+
+// What is shown of a longer name.
+const NAME_BYTES: usize = 24;
+
+fn heading(table: Table) {
+    let headings = HEADINGS;
+    text(item(&headings, table.number() as u64));
+}
+
+// A number with a comma before its last three digits.
+fn grouped(n: usize) {
+    if n < 1000 {
+        number(n as u64);
+        return;
+    }
+    let rest = n % 1000;
+    number((n / 1000) as u64);
+    byte(b',');
+    number((rest / 100) as u64);
+    number((rest / 10 % 10) as u64);
+    number((rest % 10) as u64);
+}
+
+fn shown_name(source: &[u8], names: &[u64; NAME_WORDS], view: View, n: u64) {
+    if n >= view.names as u64 {
+        byte(b'#');
+        number(n);
+        return;
+    }
+    let place = place_of(names, n as usize);
+    let whole = part(source, place.start, place.end);
+    text(part(whole, 0, NAME_BYTES));
+    if whole.len() > NAME_BYTES {
+        text(b"..");
+    }
+}
+
+fn in_brackets(word: &[u8]) {
+    if word.len() > 0 {
+        text(b" (");
+        text(word);
+        byte(b')');
+    }
+}
+
+// What a student knows a row by: its name, tag or mnemonic.
+fn known_by(
+    source: &[u8],
+    names: &[u64; NAME_WORDS],
+    view: View,
+    table: Table,
+    words: [u64; ROW_WORDS],
+) {
+    let nodes = NODES;
+    let mnemonics = MNEMONICS;
+    match table {
+        Table::Nodes => in_brackets(item(&nodes, words[0])),
+        Table::Arguments => {}
+        Table::Instructions => in_brackets(item(line_of(&mnemonics, words[0]), words[1])),
+        _ => {
+            text(b" (");
+            shown_name(source, names, view, words[0]);
+            byte(b')')
+        }
+    }
+}
+
+fn row_head(
+    source: &[u8],
+    names: &[u64; NAME_WORDS],
+    view: View,
+    row: Row,
+    words: [u64; ROW_WORDS],
+) {
+    let table = row.table;
+    heading(table);
+    text(b", row ");
+    number(row.number as u64);
+    known_by(source, names, view, table, words);
+}
+
+// A column in words.
+fn column_name(table: Table, column: u64) {
+    match table {
+        Table::Regions => line(b"name\nkind\nlength", column),
+        Table::Externs => line(
+            b"name\nreturn kind\nfirst parameter\nparameter count",
+            column,
+        ),
+        Table::Parameters => line(b"name\nmutability\nshape\nkind\nlength", column),
+        Table::Nodes => line(b"tag\nfirst word\nsecond word", column),
+        Table::Arguments => line(b"form\nfirst word\nsecond word", column),
+        Table::Instructions => line(
+            b"family\noperator\nfirst name\nfirst index\nsecond name\nsecond index\n\
+            source form\nfirst source word\nsecond source word",
+            column,
+        ),
+    }
+}
+
+fn allowed_words(words: Allowed) {
+    match words {
+        Allowed::Any => {}
+        Allowed::UpTo(last) => {
+            text(b"; allowed are 0 to ");
+            number(last)
+        }
+        Allowed::Either(one, other) => {
+            text(b"; allowed are ");
+            number(one);
+            text(b" and ");
+            number(other)
+        }
+        Allowed::Alone(only) => {
+            text(b"; allowed is ");
+            number(only)
+        }
+        Allowed::Unused => text(b"; unused, it must be 0"),
+    }
+}
+
+fn word_line(row: Row, words: [u64; ROW_WORDS], column: usize) {
+    let table = row.table;
+    let place = place::place_of(table, words, column);
+    text(b":\n  word ");
+    number(std::num::wrapping_add_u64(column as u64, 1));
+    text(b", the ");
+    column_name(table, column as u64);
+    text(b", is ");
+    number(word_of(&words, column));
+    allowed_words(words_at(place, words[0]));
+}
+
+fn range_line(range: Range) {
+    let table = range.table;
+    text(b"\n  ");
+    heading(table);
+    text(b" from row ");
+    number(range.first);
+    text(b", count ");
+    number(range.count);
+}
+
+fn tree_line(range: Range, rows: u64) {
+    byte(b':');
+    range_line(range);
+    text(b": not exactly one tree; ");
+    if rows == 0 {
+        text(b"more are needed");
+    } else {
+        text(b"one ends after ");
+        number(rows);
+    }
+}
+
+// A refusal 2, with the words of its row.
+fn tell_row(at: Where, words: [u64; ROW_WORDS]) {
+    match at {
+        Where::Word(row, column) => word_line(row, words, column),
+        Where::Outside(_, range) => {
+            text(b" asks for");
+            range_line(range);
+            text(b", of ");
+            grouped(range.rows)
+        }
+        Where::NotOneTree(_, range, rows) => tree_line(range, rows),
+        _ => text(b" is not allowed"),
+    }
+}
+
+fn tell_in_row(
+    source: &[u8],
+    names: &[u64; NAME_WORDS],
+    view: View,
+    at: Where,
+    row: Row,
+    table: &[u64],
+) {
+    let words = whole_row(row_from(table, row.at, ROW_WORDS));
+    row_head(source, names, view, row, words);
+    tell_row(at, words);
+}
+
+fn tell_pair(
+    source: &[u8],
+    names: &[u64; NAME_WORDS],
+    view: View,
+    n: u64,
+    first: usize,
+    second: usize,
+) {
+    text(b", rows ");
+    number(first as u64);
+    text(b" and ");
+    number(second as u64);
+    text(b" have the same name (");
+    shown_name(source, names, view, n);
+    byte(b')');
+}
+
+// `table` has the words of the table that it lies in.
+pub fn tell(source: &[u8], names: &[u64; NAME_WORDS], view: View, at: Where, table: &[u64]) {
+    match at {
+        Where::NotWholeRows(which, words, width) => {
+            heading(which);
+            text(b": ");
+            grouped(words);
+            text(b" word");
+            if words != 1 {
+                byte(b's');
+            }
+            text(b", not whole rows of ");
+            grouped(width)
+        }
+        Where::OverLimit(which, rows, limit) => {
+            heading(which);
+            text(b": ");
+            grouped(rows);
+            text(b" rows, at most ");
+            grouped(limit)
+        }
+        Where::SameName(which, n, first, second) => {
+            heading(which);
+            tell_pair(source, names, view, n, first, second)
+        }
+        Where::Word(row, _) => tell_in_row(source, names, view, at, row, table),
+        Where::Outside(row, _) => tell_in_row(source, names, view, at, row, table),
+        Where::NotOneTree(row, _, _) => tell_in_row(source, names, view, at, row, table),
+        Where::Whole(row) => tell_in_row(source, names, view, at, row, table),
+        Where::Nowhere => return,
+    }
+    byte(b'\n');
+}
