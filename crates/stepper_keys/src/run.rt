@@ -1,5 +1,4 @@
 // The program: `FILE` steps it, `check FILE` tells its verdict, `check FILE OTHER` that and then steps the other, `refusals` the page of refusals.
-use crate::keys::help;
 use crate::keys::open_file;
 use crate::keys::show;
 use crate::keys::turns;
@@ -12,6 +11,7 @@ use stepper_desk::state::MEMORY_WORDS;
 use stepper_desk::state::State;
 use stepper_desk::state::TEXT_BYTES;
 use stepper_desk::state::new_desk;
+use stepper_screen::help::help;
 use stepper_screen::page::page;
 use stepper_screen::print::number;
 use stepper_screen::print::text;
@@ -35,6 +35,7 @@ fn start(path: &[u8], only_check: bool, desk: Desk) {
     let mut buffer = [0; TEXT_BYTES];
     let mut names = [0; NAME_WORDS];
     let mut tables = [0; TABLE_WORDS];
+    let mut before = [0; MEMORY_WORDS];
     let mut memory = [0; MEMORY_WORDS];
     let mut journal = [0; JOURNAL_WORDS];
     let opened = open_file(
@@ -42,6 +43,7 @@ fn start(path: &[u8], only_check: bool, desk: Desk) {
         &mut buffer,
         &mut names,
         &mut tables,
+        &mut before,
         &mut memory,
         &mut journal,
         desk,
@@ -54,12 +56,13 @@ fn start(path: &[u8], only_check: bool, desk: Desk) {
     if !opened.has_file() {
         return;
     }
-    show(&buffer, &names, &tables, &memory, opened);
+    show(&buffer, &names, &tables, &before, &memory, opened);
     text(b"h shows the keys\n");
     turns(
         &mut buffer,
         &mut names,
         &mut tables,
+        &mut before,
         &mut memory,
         &mut journal,
         opened,
