@@ -25,21 +25,14 @@ use tables::rows::Instruction;
 
 const SET_WORDS: usize = 1024;
 
-fn set(
-    line: Line,
-    source: &[u8],
-    names: &[u64; NAME_WORDS],
-    list: &[u64],
-    count: usize,
-) -> Line {
+fn set(line: Line, source: &[u8], names: &[u64; NAME_WORDS], list: &[u64], count: usize) -> Line {
     let mut made = line;
     let mut i = 0;
     while i < count {
         if !made.fits() {
             break;
         }
-        made = made
-            .with(b' ')
+        made = made.with(b' ')
             .name(source, names, word_of(list, i))
             .whole();
         i += 1;
@@ -88,8 +81,7 @@ fn walked(
     let next = stepped.found;
     match next {
         Next::Reference(found) => {
-            let told = line
-                .with(b' ')
+            let told = line.with(b' ')
                 .reference(source, names, found.name, found.index);
             Walk {
                 line: told.whole(),

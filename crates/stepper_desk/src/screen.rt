@@ -31,10 +31,7 @@ fn head(desk: Desk, rows: usize) {
 fn named(tables: &[u64; TABLE_WORDS], desk: Desk) -> [bool; 64] {
     let lengths = desk.lengths;
     let position = desk.position;
-    let current = row_at(
-        table(tables, Table::Instructions, lengths),
-        position.row(),
-    );
+    let current = row_at(table(tables, Table::Instructions, lengths), position.row());
     match current {
         Current::Row(x) => named_regions(
             table(tables, Table::Regions, lengths),

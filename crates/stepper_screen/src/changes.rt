@@ -23,7 +23,11 @@ fn cell_changed(before: &[u64], after: &[u64], cell: usize) -> bool {
 pub fn changed(before: &[u64], after: &[u64], first: usize, count: u64) -> bool {
     let mut i = 0;
     while i < count {
-        if cell_changed(before, after, std::num::wrapping_add_usize(first, i as usize)) {
+        if cell_changed(
+            before,
+            after,
+            std::num::wrapping_add_usize(first, i as usize),
+        ) {
             return true;
         }
         i += 1;

@@ -129,12 +129,10 @@ fn cause(
     details: [u64; DETAILS],
 ) -> Line {
     match error {
-        UNDECLARED => line
-            .name(source, names, details[0])
+        UNDECLARED => line.name(source, names, details[0])
             .text(b" is not declared"),
         MISMATCHED_VECTOR => mismatched_vector(line, details),
-        MISMATCHED_SCALAR => line
-            .kind(details[0])
+        MISMATCHED_SCALAR => line.kind(details[0])
             .text(b" expected, ")
             .kind(details[1])
             .text(b" given"),
@@ -146,8 +144,7 @@ fn cause(
             let told = line.text(b"the return needs memory, not ").whole();
             argument(told, source, names, argument_of(details))
         }
-        _ => line
-            .text(b"an immediate for the mutable ")
+        _ => line.text(b"an immediate for the mutable ")
             .name(source, names, details[0]),
     }
 }
@@ -172,14 +169,7 @@ fn error_line(
     if whole.fits() {
         whole.end();
     } else {
-        cause(
-            headed.whole().shortened(),
-            source,
-            names,
-            error,
-            details,
-        )
-        .end();
+        cause(headed.whole().shortened(), source, names, error, details).end();
     }
 }
 

@@ -31,8 +31,7 @@ fn first(line: Line, source: &[u8], names: &[u64; NAME_WORDS], x: Instruction) -
 fn second(line: Line, source: &[u8], names: &[u64; NAME_WORDS], x: Instruction) -> Line {
     let family = x.family;
     match family {
-        family::COMPARISON | family::EXCHANGE | family::STORE => line
-            .with(b' ')
+        family::COMPARISON | family::EXCHANGE | family::STORE => line.with(b' ')
             .reference(source, names, x.second_name, x.second_index)
             .whole(),
         family::LOAD => line.with(b' ').name(source, names, x.second_name).whole(),
@@ -45,8 +44,7 @@ fn source_operand(line: Line, source: &[u8], names: &[u64; NAME_WORDS], x: Instr
     match form {
         source::INTEGER_LITERAL => line.with(b' ').signed(x.source_first).whole(),
         source::REAL_LITERAL => line.with(b' ').real(x.source_first).whole(),
-        source::REFERENCE => line
-            .with(b' ')
+        source::REFERENCE => line.with(b' ')
             .reference(source, names, x.source_first, x.source_second)
             .whole(),
         _ => line,

@@ -115,7 +115,7 @@ fn headed(line: Line, source: &[u8], names: &[u64; NAME_WORDS], region: Region) 
         .whole()
 }
 
-// A line too long: of a region that changed the changed cells alone, and where they do not fit either, without its kind.
+// A line too long, with a long name shortened. Where that is not enough, of a region that changed the changed cells alone, and without its kind if need be.
 fn cut_line(
     source: &[u8],
     names: &[u64; NAME_WORDS],
@@ -127,21 +127,17 @@ fn cut_line(
     changed: bool,
 ) -> Line {
     let line = Line::new(view).shortened();
-    let made = cells(
-        headed(line, source, names, region),
-        before,
-        after,
-        span,
-        changed,
-    );
-    if !changed {
+    let head = headed(line, source, names, region);
+    let made = cells(head, before, after, span, false);
+    if made.fits() | !changed {
         return made;
     }
-    if made.is_whole() {
-        return made.cut();
+    let only = cells(head, before, after, span, true);
+    if only.is_whole() {
+        return only.cut();
     }
     let tight = line.tight().text(b"  ").name(source, names, region.name);
-    cells(tight.whole(), before, after, span, changed).cut()
+    cells(tight.whole(), before, after, span, true).cut()
 }
 
 fn region_line(
@@ -224,9 +220,7 @@ fn looked_through(
     let mut now = look;
     let mut r = 0;
     while r < rows {
-        now = looked_at(
-            source, names, view, regions, before, after, named, r, now,
-        );
+        now = looked_at(source, names, view, regions, before, after, named, r, now);
         r += 1;
     }
     now
@@ -262,17 +256,11 @@ fn some_lines(
         lines,
         left_out: 0,
     };
-    let changed = looked_through(
-        source, names, view, regions, before, after, named, look,
-    );
+    let changed = looked_through(source, names, view, regions, before, after, named, look);
     let next = changed.then(Rank::Named);
-    let mentioned = looked_through(
-        source, names, view, regions, before, after, named, next,
-    );
+    let mentioned = looked_through(source, names, view, regions, before, after, named, next);
     let last = mentioned.then(Rank::Other);
-    let all = looked_through(
-        source, names, view, regions, before, after, named, last,
-    );
+    let all = looked_through(source, names, view, regions, before, after, named, last);
     regions_left_out(view, changed.left_out, all.left_out);
 }
 
@@ -290,9 +278,7 @@ pub fn region_lines(
     let most = if view.cells { LINES } else { LINES_UNOPENED };
     let lines = shown(view, rows, most);
     if lines < rows {
-        some_lines(
-            source, names, view, regions, before, after, named, lines,
-        );
+        some_lines(source, names, view, regions, before, after, named, lines);
         return;
     }
     let look = Look {
@@ -300,7 +286,5 @@ pub fn region_lines(
         lines,
         left_out: 0,
     };
-    looked_through(
-        source, names, view, regions, before, after, named, look,
-    );
+    looked_through(source, names, view, regions, before, after, named, look);
 }

@@ -19,12 +19,10 @@ const LINES: usize = 10;
 fn resolved(line: Line, source: &[u8], names: &[u64; NAME_WORDS], words: [u64; 4]) -> Line {
     let form = words[0];
     match form {
-        VECTOR => line
-            .name(source, names, words[1])
+        VECTOR => line.name(source, names, words[1])
             .with(b' ')
             .vector(words[2], words[3]),
-        MEMORY_REFERENCE => line
-            .reference(source, names, words[1], words[2])
+        MEMORY_REFERENCE => line.reference(source, names, words[1], words[2])
             .with(b' ')
             .kind(words[3]),
         _ => complex(line, words[1], words[2])
