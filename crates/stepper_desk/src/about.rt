@@ -40,6 +40,16 @@ fn set(line: Line, source: &[u8], names: &[u64; NAME_WORDS], list: &[u64], count
     made
 }
 
+fn set_line(
+    line: Line,
+    source: &[u8],
+    names: &[u64; NAME_WORDS],
+    list: &[u64; SET_WORDS],
+    count: usize,
+) {
+    set(line, source, names, list, count).end();
+}
+
 // The read and write sets of a CALL.
 fn show_access(
     source: &[u8],
@@ -56,8 +66,8 @@ fn show_access(
     match answer {
         AccessAnswer::Sets(read, written) => {
             let line = Line::new(view);
-            set(line.text(b"  reads"), source, names, &reads, read).end();
-            set(line.text(b"  writes"), source, names, &writes, written).end()
+            set_line(line.text(b"  reads"), source, names, &reads, read);
+            set_line(line.text(b"  writes"), source, names, &writes, written)
         }
         AccessAnswer::Refused(number) => refused(number, view),
     }

@@ -13,6 +13,7 @@ use stepper_tables::file::TABLE_WORDS;
 use stepper_tables::heading::Table;
 use stepper_tables::names::NAME_WORDS;
 use tables::rows::INSTRUCTION_WIDTH;
+use tables::rows::REGION_LIMIT;
 
 fn head(desk: Desk, rows: usize) {
     let position = desk.position;
@@ -28,7 +29,7 @@ fn head(desk: Desk, rows: usize) {
 }
 
 // For each region whether the current row names it.
-fn named(tables: &[u64; TABLE_WORDS], desk: Desk) -> [bool; 64] {
+fn named(tables: &[u64; TABLE_WORDS], desk: Desk) -> [bool; REGION_LIMIT] {
     let lengths = desk.lengths;
     let position = desk.position;
     let current = row_at(table(tables, Table::Instructions, lengths), position.row());
@@ -39,7 +40,7 @@ fn named(tables: &[u64; TABLE_WORDS], desk: Desk) -> [bool; 64] {
             table(tables, Table::Arguments, lengths),
             x,
         ),
-        Current::End => [false; 64],
+        Current::End => [false; REGION_LIMIT],
     }
 }
 

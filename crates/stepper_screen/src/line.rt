@@ -20,19 +20,25 @@ const PAST: usize = COLUMNS + 1;
 
 const MARK: [u8; 17] = *b" .. (m shows all)";
 
+// The column up to which items are kept, so that the mark fits.
+const LIMIT: usize = COLUMNS - 17;
+
 // For a line that has no room for the mark.
 const SHORT_MARK: [u8; 3] = *b" ..";
 
-// What a shortened name keeps at either end, and how long a name must be for that.
-const NAME_END: usize = 6;
+const TIGHT_LIMIT: usize = COLUMNS - 3;
 
+// A name that is longer is shortened to this, so that one change always fits: its name, an index of four digits and two REAL values of 24 bytes.
 const LONG_NAME: usize = 14;
+
+// What a shortened name keeps at either end.
+const NAME_END: usize = 6;
 
 const HALF: u64 = 0x8000_0000_0000_0000;
 
 // The bytes so far, how many of them are whole items, up to which column items are kept, and whether long names are shortened.
 pub struct Line {
-    pub bytes: [u8; 80],
+    pub bytes: [u8; COLUMNS],
     pub length: usize,
     pub kept: usize,
     pub limit: usize,
@@ -43,10 +49,10 @@ pub struct Line {
 impl Line {
     pub fn new(view: View) -> Line {
         Line {
-            bytes: [0; 80],
+            bytes: [0; COLUMNS],
             length: 0,
             kept: 0,
-            limit: COLUMNS - 17,
+            limit: LIMIT,
             short: false,
             view,
         }
@@ -59,11 +65,10 @@ impl Line {
         next
     }
 
-    // For a line that did not fit even so: the mark gives way.
+    // For a line that did not fit even so: the mark gives way to what it would cut off.
     pub fn tight(self) -> Line {
         let mut next = self;
-        next.short = true;
-        next.limit = COLUMNS - 3;
+        next.limit = TIGHT_LIMIT;
         next
     }
 
@@ -136,7 +141,7 @@ impl Line {
             return;
         }
         text(part(&bytes, 0, self.kept));
-        if self.limit < COLUMNS - 3 {
+        if self.limit == LIMIT {
             let mark = MARK;
             text(&mark);
         } else {

@@ -62,7 +62,7 @@ pub fn named_regions(
     nodes: &[u64],
     arguments: &[u64],
     x: Instruction,
-) -> [bool; 64] {
+) -> [bool; REGION_LIMIT] {
     let mut named = [false; REGION_LIMIT];
     let rows = least(regions.len() / REGION_WIDTH, REGION_LIMIT);
     let mut r = 0;

@@ -182,7 +182,7 @@ fn looked_at(
     regions: &[u64],
     before: &[u64],
     after: &[u64],
-    named: &[bool; 64],
+    named: &[bool; REGION_LIMIT],
     r: usize,
     look: Look,
 ) -> Look
@@ -201,7 +201,7 @@ fn looked_at(
     look.lines_less()
 }
 
-fn is_named(named: &[bool; 64], r: usize) -> bool {
+fn is_named(named: &[bool; REGION_LIMIT], r: usize) -> bool {
     if r < REGION_LIMIT { named[r] } else { false }
 }
 
@@ -213,7 +213,7 @@ fn looked_through(
     regions: &[u64],
     before: &[u64],
     after: &[u64],
-    named: &[bool; 64],
+    named: &[bool; REGION_LIMIT],
     look: Look,
 ) -> Look {
     let rows = regions.len() / REGION_WIDTH;
@@ -248,7 +248,7 @@ fn some_lines(
     regions: &[u64],
     before: &[u64],
     after: &[u64],
-    named: &[bool; 64],
+    named: &[bool; REGION_LIMIT],
     lines: usize,
 ) {
     let look = Look {
@@ -272,7 +272,7 @@ pub fn region_lines(
     regions: &[u64],
     before: &[u64],
     after: &[u64],
-    named: &[bool; 64],
+    named: &[bool; REGION_LIMIT],
 ) {
     let rows = regions.len() / REGION_WIDTH;
     let most = if view.cells { LINES } else { LINES_UNOPENED };
