@@ -12,12 +12,9 @@ use memory::Next;
 use memory::Stepped;
 use stepper_calls::access_row;
 use stepper_calls::table;
-use stepper_screen::print::byte;
-use stepper_screen::print::name;
-use stepper_screen::print::reference;
+use stepper_screen::line::Line;
 use stepper_screen::print::text;
 use stepper_screen::refusal::refused;
-use stepper_screen::view::View;
 use stepper_tables::file::TABLE_WORDS;
 use stepper_tables::heading::Table;
 use stepper_tables::names::NAME_WORDS;
@@ -28,14 +25,29 @@ use tables::rows::Instruction;
 
 const SET_WORDS: usize = 1024;
 
-fn set(source: &[u8], names: &[u64; NAME_WORDS], view: View, list: &[u64], count: usize) {
+fn set(line: Line, source: &[u8], names: &[u64; NAME_WORDS], list: &[u64], count: usize) -> Line {
+    let mut made = line;
     let mut i = 0;
     while i < count {
-        byte(b' ');
-        name(source, names, view, word_of(list, i));
+        if !made.fits() {
+            break;
+        }
+        made = made.with(b' ')
+            .name(source, names, word_of(list, i))
+            .whole();
         i += 1;
     }
-    byte(b'\n');
+    made
+}
+
+fn set_line(
+    line: Line,
+    source: &[u8],
+    names: &[u64; NAME_WORDS],
+    list: &[u64; SET_WORDS],
+    count: usize,
+) {
+    set(line, source, names, list, count).end();
 }
 
 // The read and write sets of a CALL.
@@ -53,71 +65,82 @@ fn show_access(
     let answer = access_row(tables, lengths, row, &mut reads, &mut writes);
     match answer {
         AccessAnswer::Sets(read, written) => {
-            text(b"  reads");
-            set(source, names, view, &reads, read);
-            text(b"  writes");
-            set(source, names, view, &writes, written)
+            let line = Line::new(view);
+            set_line(line.text(b"  reads"), source, names, &reads, read);
+            set_line(line.text(b"  writes"), source, names, &writes, written)
         }
         AccessAnswer::Refused(number) => refused(number, view),
     }
 }
 
-// A reference that the walk handed out, and the place to go on from; the node count at the end.
+// A line of references, and the place to go on from; the node table's length at the end.
+struct Walk {
+    line: Line,
+    place: usize,
+}
+
+// The line with a reference that the walk handed out.
 fn walked(
+    walk: Walk,
     source: &[u8],
     names: &[u64; NAME_WORDS],
-    view: View,
     stepped: Stepped,
     end: usize,
-) -> usize {
+) -> Walk {
+    let line = walk.line;
     let next = stepped.found;
     match next {
         Next::Reference(found) => {
-            byte(b' ');
-            reference(source, names, view, found.name, found.index);
-            stepped.place
+            let told = line.with(b' ')
+                .reference(source, names, found.name, found.index);
+            Walk {
+                line: told.whole(),
+                place: stepped.place,
+            }
         }
-        Next::End => end,
+        Next::End => Walk { line, place: end },
     }
 }
 
 fn walk_on(
+    walk: Walk,
     source: &[u8],
     names: &[u64; NAME_WORDS],
-    view: View,
     nodes: &[u64],
     x: Instruction,
-    place: usize,
-) -> usize {
-    let answer = memory_references(nodes, x.first_name, x.first_index, place);
+) -> Walk {
+    let line = walk.line;
+    let answer = memory_references(nodes, x.first_name, x.first_index, walk.place);
     match answer {
-        WalkAnswer::Went(stepped) => walked(source, names, view, stepped, nodes.len()),
+        WalkAnswer::Went(stepped) => walked(walk, source, names, stepped, nodes.len()),
         WalkAnswer::Refused(number) => {
-            refused(number, view);
-            nodes.len()
+            refused(number, line.view);
+            Walk {
+                line,
+                place: nodes.len(),
+            }
         }
     }
 }
 
 // The references of a frame's expression, left to right.
-fn show_references(
+fn references(
+    line: Line,
     source: &[u8],
     names: &[u64; NAME_WORDS],
-    view: View,
     nodes: &[u64],
     x: Instruction,
-) {
-    text(b"  references");
-    let mut place = 0;
+) -> Line {
+    let mut walk = Walk { line, place: 0 };
     let mut turns = nodes.len();
     while turns > 0 {
-        if place >= nodes.len() {
+        if walk.place >= nodes.len() {
             break;
         }
-        place = walk_on(source, names, view, nodes, x, place);
+        walk = walk_on(walk, source, names, nodes, x);
         turns -= 1;
     }
-    byte(b'\n');
+    walk.line
 }
 
 fn about_call(
@@ -151,7 +174,8 @@ fn about_row(
         FRAME => {
             let nodes = table(tables, Table::Nodes, lengths);
             this_row(source, names, tables, desk, row);
-            show_references(source, names, desk.view, nodes, x)
+            let line = Line::new(desk.view).text(b"  references");
+            references(line, source, names, nodes, x).end()
         }
         _ => nothing_more(),
     }

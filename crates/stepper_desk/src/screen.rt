@@ -1,16 +1,19 @@
-// The screen: how far the program is, its rows with the current one marked, and the regions with their cells.
+// The screen: how far the program is, its rows with the current one marked, and the regions with their cells and what the last step changed.
+use crate::explain::Current;
+use crate::explain::row_at;
 use crate::state::Desk;
 use journal::entries::ENTRY_WIDTH;
 use stepper_calls::table;
+use stepper_screen::named::named_regions;
 use stepper_screen::print::number;
 use stepper_screen::print::text;
-use stepper_screen::program::end_row;
 use stepper_screen::program::program_rows;
 use stepper_screen::regions::region_lines;
 use stepper_tables::file::TABLE_WORDS;
 use stepper_tables::heading::Table;
 use stepper_tables::names::NAME_WORDS;
 use tables::rows::INSTRUCTION_WIDTH;
+use tables::rows::REGION_LIMIT;
 
 fn head(desk: Desk, rows: usize) {
     let position = desk.position;
@@ -25,17 +28,34 @@ fn head(desk: Desk, rows: usize) {
     text(b" journal entries used\n");
 }
 
+// For each region whether the current row names it.
+fn named(tables: &[u64; TABLE_WORDS], desk: Desk) -> [bool; REGION_LIMIT] {
+    let lengths = desk.lengths;
+    let position = desk.position;
+    let current = row_at(table(tables, Table::Instructions, lengths), position.row());
+    match current {
+        Current::Row(x) => named_regions(
+            table(tables, Table::Regions, lengths),
+            table(tables, Table::Nodes, lengths),
+            table(tables, Table::Arguments, lengths),
+            x,
+        ),
+        Current::End => [false; REGION_LIMIT],
+    }
+}
+
+// The cells before the last step, and now.
 pub fn screen(
     source: &[u8],
     names: &[u64; NAME_WORDS],
     tables: &[u64; TABLE_WORDS],
+    before: &[u64],
     memory: &[u64],
     desk: Desk,
 ) {
     let lengths = desk.lengths;
     let view = desk.view;
     let position = desk.position;
-    let row = position.row();
     let instructions = table(tables, Table::Instructions, lengths);
     head(desk, instructions.len() / INSTRUCTION_WIDTH);
     program_rows(
@@ -45,15 +65,16 @@ pub fn screen(
         table(tables, Table::Nodes, lengths),
         table(tables, Table::Arguments, lengths),
         instructions,
-        row,
+        position.row(),
     );
-    end_row(view, instructions, row);
+    let named = named(tables, desk);
     region_lines(
         source,
         names,
-        view,
+        view.with_cells(desk.is_opened()),
         table(tables, Table::Regions, lengths),
+        before,
         memory,
-        desk.is_opened(),
+        &named,
     );
 }

@@ -85,6 +85,7 @@ pub fn new_desk(colour: bool, echo: bool) -> Desk {
         names: 0,
         bits: false,
         all: false,
+        cells: false,
         colour,
         echo,
     };

@@ -5,7 +5,7 @@ use crate::steps::check_key;
 use crate::steps::forward_key;
 use crate::steps::no_file;
 use crate::steps::reset;
-use crate::steps::tell_changes;
+use crate::steps::tell_unchanged;
 use script::line::byte_at;
 use script::line::part;
 use script::line::word_at;
@@ -19,8 +19,9 @@ use stepper_desk::state::JOURNAL_WORDS;
 use stepper_desk::state::MEMORY_WORDS;
 use stepper_desk::state::TEXT_BYTES;
 use stepper_screen::changes::copy;
+use stepper_screen::help::help;
+use stepper_screen::help::no_such_key;
 use stepper_screen::page::page;
-use stepper_screen::print::text;
 use stepper_tables::file::TABLE_WORDS;
 use stepper_tables::names::NAME_WORDS;
 
@@ -77,34 +78,24 @@ fn key_by(byte: u8) -> Key {
     }
 }
 
-pub fn help() {
-    text(
-        b"Keys, one a line:\n  \
-        (empty)  forward: the next row; at a CALL the reply is asked for\n  \
-        b        back: takes the last step back\n  \
-        r        reset: opens the program again\n  \
-        a        about the current row: a CALL's arguments and access sets, a frame's references\n  \
-        c        type check of the whole program\n  \
-        x        REAL words as bits, on and off\n  \
-        m        more: all rows and all cells, on and off\n  \
-        o FILE   opens another file\n  \
-        p        the page of refusals: what is turned down, why, and who can mend it\n  \
-        h        this help\n  \
-        q        quit\n\
-        A reply's row is: argument, offset, value. An empty line ends the reply.\n",
-    );
-}
-
 // The screen of the desk's file.
 pub fn show(
     buffer: &[u8; TEXT_BYTES],
     names: &[u64; NAME_WORDS],
     tables: &[u64; TABLE_WORDS],
+    before: &[u64; MEMORY_WORDS],
     memory: &[u64; MEMORY_WORDS],
     desk: Desk,
 ) {
     if desk.has_file() {
-        screen(part(buffer, 0, desk.text), names, tables, memory, desk);
+        screen(
+            part(buffer, 0, desk.text),
+            names,
+            tables,
+            before,
+            memory,
+            desk,
+        );
     }
 }
 
@@ -114,22 +105,25 @@ pub fn open_file(
     buffer: &mut [u8; TEXT_BYTES],
     names: &mut [u64; NAME_WORDS],
     tables: &mut [u64; TABLE_WORDS],
+    before: &mut [u64; MEMORY_WORDS],
     memory: &mut [u64; MEMORY_WORDS],
     journal: &mut [u64; JOURNAL_WORDS],
     desk: Desk,
 ) -> Desk {
     let loaded = load(path, buffer, names, tables, desk);
-    if loaded.has_file() {
-        return reset(
-            part(buffer, 0, loaded.text),
-            names,
-            tables,
-            loaded,
-            memory,
-            journal,
-        );
+    if !loaded.has_file() {
+        return loaded;
     }
-    loaded
+    let opened = reset(
+        part(buffer, 0, loaded.text),
+        names,
+        tables,
+        loaded,
+        memory,
+        journal,
+    );
+    copy(memory, before);
+    opened
 }
 
 // Keys that tell something of the file.
@@ -167,7 +161,7 @@ fn other_key(
         Key::Bits => return desk.viewed(view.with_bits()),
         Key::More => return desk.viewed(view.with_all()),
         Key::Quit => return desk.stopped(),
-        _ => text(b"no such key: h shows the keys\n"),
+        _ => no_such_key(),
     }
     desk
 }
@@ -189,12 +183,13 @@ fn step_key(
     }
 }
 
-// A key that stands alone on its line, and what it changed.
+// A key that stands alone on its line. The cells from before the last step are kept, for what it changed.
 fn press(
     key: Key,
     source: &[u8],
     names: &mut [u64; NAME_WORDS],
     tables: &[u64; TABLE_WORDS],
+    before: &mut [u64; MEMORY_WORDS],
     memory: &mut [u64; MEMORY_WORDS],
     journal: &mut [u64; JOURNAL_WORDS],
     desk: Desk,
@@ -202,10 +197,9 @@ fn press(
     if !key.steps() {
         return other_key(key, source, names, tables, desk);
     }
-    let mut before = [0; MEMORY_WORDS];
-    copy(memory, &mut before);
+    copy(memory, before);
     let next = step_key(key, source, names, tables, memory, journal, desk);
-    tell_changes(source, names, tables, &before, memory, desk, next);
+    tell_unchanged(before, memory, desk, next);
     next
 }
 
@@ -226,6 +220,7 @@ fn act(
     buffer: &mut [u8; TEXT_BYTES],
     names: &mut [u64; NAME_WORDS],
     tables: &mut [u64; TABLE_WORDS],
+    before: &mut [u64; MEMORY_WORDS],
     memory: &mut [u64; MEMORY_WORDS],
     journal: &mut [u64; JOURNAL_WORDS],
     desk: Desk,
@@ -239,6 +234,7 @@ fn act(
             buffer,
             names,
             tables,
+            before,
             memory,
             journal,
             desk,
@@ -249,6 +245,7 @@ fn act(
         part(buffer, 0, desk.text),
         names,
         tables,
+        before,
         memory,
         journal,
         desk,
@@ -260,6 +257,7 @@ fn turn(
     buffer: &mut [u8; TEXT_BYTES],
     names: &mut [u64; NAME_WORDS],
     tables: &mut [u64; TABLE_WORDS],
+    before: &mut [u64; MEMORY_WORDS],
     memory: &mut [u64; MEMORY_WORDS],
     journal: &mut [u64; JOURNAL_WORDS],
     desk: Desk,
@@ -270,9 +268,9 @@ fn turn(
         return desk.stopped();
     }
     let keys = typed_line(&line, typed);
-    let next = act(keys, buffer, names, tables, memory, journal, desk);
+    let next = act(keys, buffer, names, tables, before, memory, journal, desk);
     if key_of(keys).shows() {
-        show(buffer, names, tables, memory, next);
+        show(buffer, names, tables, before, memory, next);
     }
     next
 }
@@ -282,6 +280,7 @@ pub fn turns(
     buffer: &mut [u8; TEXT_BYTES],
     names: &mut [u64; NAME_WORDS],
     tables: &mut [u64; TABLE_WORDS],
+    before: &mut [u64; MEMORY_WORDS],
     memory: &mut [u64; MEMORY_WORDS],
     journal: &mut [u64; JOURNAL_WORDS],
     desk: Desk,
@@ -292,7 +291,7 @@ pub fn turns(
         if !now.going {
             break;
         }
-        now = turn(buffer, names, tables, memory, journal, now);
+        now = turn(buffer, names, tables, before, memory, journal, now);
         left -= 1;
     }
 }

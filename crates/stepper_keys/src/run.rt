@@ -1,5 +1,4 @@
 // The program: `FILE` steps it, `check FILE` tells its verdict, `check FILE OTHER` that and then steps the other, `tables FILE` prints its six tables as words, `refusals` the page of refusals.
-use crate::keys::help;
 use crate::keys::open_file;
 use crate::keys::show;
 use crate::keys::turns;
@@ -13,6 +12,7 @@ use stepper_desk::state::MEMORY_WORDS;
 use stepper_desk::state::State;
 use stepper_desk::state::TEXT_BYTES;
 use stepper_desk::state::new_desk;
+use stepper_screen::help::help;
 use stepper_screen::page::page;
 use stepper_screen::print::number;
 use stepper_screen::print::text;
@@ -36,6 +36,7 @@ fn start(path: &[u8], only_check: bool, desk: Desk) {
     let mut buffer = [0; TEXT_BYTES];
     let mut names = [0; NAME_WORDS];
     let mut tables = [0; TABLE_WORDS];
+    let mut before = [0; MEMORY_WORDS];
     let mut memory = [0; MEMORY_WORDS];
     let mut journal = [0; JOURNAL_WORDS];
     let opened = open_file(
@@ -43,6 +44,7 @@ fn start(path: &[u8], only_check: bool, desk: Desk) {
         &mut buffer,
         &mut names,
         &mut tables,
+        &mut before,
         &mut memory,
         &mut journal,
         desk,
@@ -55,12 +57,13 @@ fn start(path: &[u8], only_check: bool, desk: Desk) {
     if !opened.has_file() {
         return;
     }
-    show(&buffer, &names, &tables, &memory, opened);
+    show(&buffer, &names, &tables, &before, &memory, opened);
     text(b"h shows the keys\n");
     turns(
         &mut buffer,
         &mut names,
         &mut tables,
+        &mut before,
         &mut memory,
         &mut journal,
         opened,

@@ -22,7 +22,7 @@ use stepper_desk::state::Desk;
 use stepper_desk::state::JOURNAL_WORDS;
 use stepper_desk::state::MEMORY_WORDS;
 use stepper_desk::state::State;
-use stepper_screen::changes::changes;
+use stepper_screen::changes::changed;
 use stepper_screen::errors::type_error;
 use stepper_screen::print::style;
 use stepper_screen::print::text;
@@ -32,6 +32,7 @@ use stepper_tables::file::TABLE_WORDS;
 use stepper_tables::heading::Table;
 use stepper_tables::names::NAME_WORDS;
 use stepper_tables::plant::plant;
+use tables::cells::CELL_LIMIT;
 use tables::refusal::TYPE_ERROR;
 
 // What open answered, in words.
@@ -131,29 +132,12 @@ fn stepped(answer: StepAnswer, view: View) -> Position {
     }
 }
 
-// What a key changed, in words.
-pub fn tell_changes(
-    source: &[u8],
-    names: &[u64; NAME_WORDS],
-    tables: &[u64],
-    before: &[u64],
-    memory: &[u64],
-    old: Desk,
-    new: Desk,
-) {
+// A step that left the cells as they were.
+pub fn tell_unchanged(before: &[u64], memory: &[u64], old: Desk, new: Desk) {
     let first = old.position;
     let last = new.position;
-    let lengths = new.lengths;
-    let regions = table(tables, Table::Regions, lengths);
-    let any = changes(
-        source,
-        names,
-        new.view,
-        regions,
-        before,
-        front(memory, new.memory),
-    );
-    if !any & (first.done != last.done) {
+    let stepped = first.done != last.done;
+    if stepped & !changed(before, memory, 0, CELL_LIMIT as u64) {
         text(b"no cell changed\n");
     }
 }

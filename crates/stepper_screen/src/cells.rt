@@ -1,25 +1,36 @@
 // Cells by region and index, where the library lays them out.
 use journal::cells::CELL_WIDTH;
-use operands::address::Indexed;
-use operands::address::index_cell;
+use operands::address::region_origin;
 use tables::cells::Cells;
 use tables::cells::cell_count;
 use tables::rows::REGION_WIDTH;
+use tables::rows::region_at;
 
 pub struct Cell {
     pub kind: u64,
     pub word: u64,
 }
 
-// The cell at an index of a region.
-pub fn cell_at(regions: &[u64], r: usize, i: u64) -> Indexed {
+// The cells of a region: the first, and how many.
+pub struct Span {
+    pub first: usize,
+    pub count: u64,
+}
+
+// Where a region's cells lie; none, where the regions have too many.
+pub fn cells_of(regions: &[u64], r: usize) -> Span {
     let Cells::Count(cells) = cell_count(regions) else {
-        return Indexed::Past;
+        return Span { first: 0, count: 0 };
     };
     if r < regions.len() / REGION_WIDTH {
-        return index_cell(regions, r, i);
+        let first = region_origin(regions, r);
+        let region = region_at(regions, r);
+        return Span {
+            first,
+            count: region.length,
+        };
     }
-    Indexed::Past
+    Span { first: 0, count: 0 }
 }
 
 // What a cell holds; past the memory's end 0 and 0.

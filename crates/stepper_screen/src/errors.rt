@@ -1,11 +1,11 @@
 // Type errors and argument errors in words.
+use crate::line::Line;
+use crate::line::left_out;
+use crate::line::shown;
 use crate::print::byte;
-use crate::print::kind;
 use crate::print::line;
-use crate::print::name;
 use crate::print::number;
 use crate::print::text;
-use crate::print::vector;
 use crate::quil::argument;
 use crate::view::View;
 use extern_call::rows::ERROR_WIDTH;
@@ -29,6 +29,9 @@ const INVALID_VECTOR: u64 = 4;
 const RETURN_ARGUMENT: u64 = 5;
 
 const DETAILS: usize = 4;
+
+// Lines of argument errors that are shown, unless all are.
+const LINES: usize = 4;
 
 // The operand that an error names: from 1 a row's, then an expression's nodes.
 fn spot(n: u64) {
@@ -110,76 +113,76 @@ fn argument_of(details: [u64; DETAILS]) -> Argument {
     }
 }
 
+fn mismatched_vector(line: Line, details: [u64; DETAILS]) -> Line {
+    line.vector(details[0], details[1])
+        .text(b" expected, ")
+        .vector(details[2], details[3])
+        .text(b" given")
+}
+
 // The six causes, by number; the details are the error row's last four words.
 fn cause(
+    line: Line,
     source: &[u8],
     names: &[u64; NAME_WORDS],
-    view: View,
     error: u64,
     details: [u64; DETAILS],
-) {
+) -> Line {
     match error {
-        UNDECLARED => {
-            name(source, names, view, details[0]);
-            text(b" is not declared")
-        }
-        MISMATCHED_VECTOR => {
-            vector(details[0], details[1]);
-            text(b" is expected, and ");
-            vector(details[2], details[3]);
-            text(b" given")
-        }
-        MISMATCHED_SCALAR => {
-            kind(details[0]);
-            text(b" is expected, and ");
-            kind(details[1]);
-            text(b" given")
-        }
+        UNDECLARED => line.name(source, names, details[0])
+            .text(b" is not declared"),
+        MISMATCHED_VECTOR => mismatched_vector(line, details),
+        MISMATCHED_SCALAR => line.kind(details[0])
+            .text(b" expected, ")
+            .kind(details[1])
+            .text(b" given"),
         INVALID_VECTOR => {
-            argument(source, names, view, argument_of(details));
-            text(b" is no vector")
+            let told = line.text(b"no vector is given: ").whole();
+            argument(told, source, names, argument_of(details))
         }
         RETURN_ARGUMENT => {
-            argument(source, names, view, argument_of(details));
-            text(b" is an immediate, and the return needs memory")
+            let told = line.text(b"the return needs memory, not ").whole();
+            argument(told, source, names, argument_of(details))
         }
-        _ => {
-            text(b"an immediate is given for the mutable parameter ");
-            name(source, names, view, details[0])
-        }
+        _ => line.text(b"an immediate for the mutable ")
+            .name(source, names, details[0]),
     }
 }
 
-fn place(return_or_parameter: u64, index: u64) {
+fn place(line: Line, return_or_parameter: u64, index: u64) -> Line {
     if return_or_parameter == 0 {
-        text(b"  the return: ");
+        return line.text(b"  the return: ");
+    }
+    line.text(b"  parameter ").number(index).text(b": ")
+}
+
+// An error's line, in whole names or shortened ones.
+fn error_line(
+    line: Line,
+    source: &[u8],
+    names: &[u64; NAME_WORDS],
+    error: u64,
+    details: [u64; DETAILS],
+) {
+    let headed = line.text(b"argument error ").number(error).text(b": ");
+    let whole = cause(headed, source, names, error, details);
+    if whole.fits() {
+        whole.end();
     } else {
-        text(b"  parameter ");
-        number(index);
-        text(b": ");
+        cause(headed.whole().shortened(), source, names, error, details).end();
     }
 }
 
 fn error_row(source: &[u8], names: &[u64; NAME_WORDS], view: View, rows: &[u64], row: usize) {
     if row < rows.len() / ERROR_WIDTH {
         let at = row * ERROR_WIDTH;
-        let error = rows[at + 2];
-        place(rows[at], rows[at + 1]);
-        text(b"argument error ");
-        number(error);
-        text(b": ");
-        cause(
-            source,
-            names,
-            view,
-            error,
-            [rows[at + 3], rows[at + 4], rows[at + 5], rows[at + 6]],
-        );
-        byte(b'\n');
+        let details = [rows[at + 3], rows[at + 4], rows[at + 5], rows[at + 6]];
+        let placed = place(Line::new(view), rows[at], rows[at + 1]);
+        error_line(placed, source, names, rows[at + 2], details);
     }
 }
 
-// All error rows of a CALL, a line each.
+// The error rows of a CALL, a line each.
 pub fn show_errors(
     source: &[u8],
     names: &[u64; NAME_WORDS],
@@ -187,9 +190,11 @@ pub fn show_errors(
     rows: &[u64],
     count: usize,
 ) {
+    let lines = shown(view, count, LINES);
     let mut i = 0;
-    while i < count {
+    while i < lines {
         error_row(source, names, view, rows, i);
         i += 1;
     }
+    left_out(view, lines, count, b" more errors: m, then r, shows all");
 }

@@ -2,6 +2,9 @@
 pub mod cells;
 pub mod changes;
 pub mod errors;
+pub mod help;
+pub mod line;
+pub mod named;
 pub mod page;
 pub mod print;
 pub mod program;

@@ -1,6 +1,6 @@
 // The program's rows, the current one marked.
+use crate::line::Line;
 use crate::print::byte;
-use crate::print::number;
 use crate::print::style;
 use crate::print::text;
 use crate::quil::row_text;
@@ -10,30 +10,52 @@ use stepper_tables::names::NAME_WORDS;
 use tables::rows::INSTRUCTION_WIDTH;
 use tables::rows::instruction_at;
 
-// Rows before and after the current one, unless all are shown.
+// Rows that are shown, and how many of them stand before the current one, unless all are.
+const ROWS: usize = 7;
+
 const ROWS_BEFORE: usize = 3;
 
-const ROWS_AFTER: usize = 5;
-
-fn mark(view: View, current: bool) {
-    if current {
-        style(view, b"1");
-        text(b"> ");
-    } else {
-        text(b"  ");
-    }
+// A row's number at the right of three places.
+fn row_number(line: Line, row: usize) -> Line {
+    let tens = if row < 10 { line.with(b' ') } else { line };
+    let hundreds = if row < 100 { tens.with(b' ') } else { tens };
+    hundreds.number(row as u64).text(b"  ")
 }
 
-// A row's number at the right of three places.
-fn row_number(row: usize) {
-    if row < 10 {
-        byte(b' ');
+fn numbered_row(
+    line: Line,
+    source: &[u8],
+    names: &[u64; NAME_WORDS],
+    nodes: &[u64],
+    arguments: &[u64],
+    instructions: &[u64],
+    row: usize,
+) -> Line {
+    let numbered = row_number(line, row);
+    if row < instructions.len() / INSTRUCTION_WIDTH {
+        let x = instruction_at(instructions, row);
+        return row_text(numbered, source, names, nodes, arguments, x);
     }
-    if row < 100 {
-        byte(b' ');
+    numbered
+}
+
+// A row after what stands before it, with its names shortened where it is too long.
+fn row_after(
+    line: Line,
+    source: &[u8],
+    names: &[u64; NAME_WORDS],
+    nodes: &[u64],
+    arguments: &[u64],
+    instructions: &[u64],
+    row: usize,
+) {
+    let whole = numbered_row(line, source, names, nodes, arguments, instructions, row);
+    if whole.fits() {
+        whole.print();
+        return;
     }
-    number(row as u64);
-    text(b"  ");
+    let short = line.shortened();
+    numbered_row(short, source, names, nodes, arguments, instructions, row).print();
 }
 
 pub fn row_line(
@@ -45,28 +67,77 @@ pub fn row_line(
     instructions: &[u64],
     row: usize,
 ) {
-    row_number(row);
-    if row < instructions.len() / INSTRUCTION_WIDTH {
-        let x = instruction_at(instructions, row);
-        row_text(source, names, view, nodes, arguments, x);
+    let line = Line::new(view);
+    row_after(line, source, names, nodes, arguments, instructions, row);
+}
+
+// A row of the screen.
+fn screen_row(
+    source: &[u8],
+    names: &[u64; NAME_WORDS],
+    view: View,
+    nodes: &[u64],
+    arguments: &[u64],
+    instructions: &[u64],
+    row: usize,
+    current: bool,
+) {
+    let line = Line::new(view);
+    let marked = if current {
+        style(view, b"1");
+        line.text(b"> ")
+    } else {
+        line.text(b"  ")
+    };
+    row_after(marked, source, names, nodes, arguments, instructions, row);
+    style(view, b"0");
+    byte(b'\n');
+}
+
+// The rows from `start` up to `end`.
+struct Window {
+    start: usize,
+    end: usize,
+}
+
+fn window_at(view: View, rows: usize, done: usize) -> Window {
+    if view.all {
+        return Window {
+            start: 0,
+            end: rows,
+        };
+    }
+    let start = if done < ROWS_BEFORE {
+        0
+    } else {
+        done - ROWS_BEFORE
+    };
+    Window {
+        start,
+        end: least(rows, std::num::wrapping_add_usize(start, ROWS)),
     }
 }
 
-fn window_start(view: View, done: usize) -> usize {
-    if view.all {
-        return 0;
+// How many rows the window leaves out.
+fn rows_left_out(view: View, window: Window, rows: usize) {
+    if (window.start == 0) & (window.end == rows) {
+        return;
     }
-    if done < ROWS_BEFORE {
-        return 0;
-    }
-    done - ROWS_BEFORE
+    Line::new(view)
+        .text(b"       .. ")
+        .number(window.start as u64)
+        .text(b" above, ")
+        .number(std::num::wrapping_sub_usize(rows, window.end) as u64)
+        .text(b" below: m shows all rows")
+        .end();
 }
 
-fn window_end(view: View, rows: usize, done: usize) -> usize {
-    if view.all {
-        return rows;
-    }
-    least(rows, std::num::wrapping_add_usize(done, ROWS_AFTER + 1))
+// The end of the program as a row.
+fn end_row(view: View) {
+    style(view, b"1");
+    text(b">      end");
+    style(view, b"0");
+    byte(b'\n');
 }
 
 // The rows around the current one.
@@ -79,23 +150,24 @@ pub fn program_rows(
     instructions: &[u64],
     done: usize,
 ) {
-    let end = window_end(view, instructions.len() / INSTRUCTION_WIDTH, done);
-    let mut row = window_start(view, done);
-    while row < end {
-        mark(view, row == done);
-        row_line(source, names, view, nodes, arguments, instructions, row);
-        style(view, b"0");
-        byte(b'\n');
+    let rows = instructions.len() / INSTRUCTION_WIDTH;
+    let window = window_at(view, rows, done);
+    let mut row = window.start;
+    while row < window.end {
+        screen_row(
+            source,
+            names,
+            view,
+            nodes,
+            arguments,
+            instructions,
+            row,
+            row == done,
+        );
         row += 1;
     }
-}
-
-// The end of the program as a row.
-pub fn end_row(view: View, instructions: &[u64], done: usize) {
-    if done == instructions.len() / INSTRUCTION_WIDTH {
-        mark(view, true);
-        text(b"     end");
-        style(view, b"0");
-        byte(b'\n');
+    if done == rows {
+        end_row(view);
     }
+    rows_left_out(view, window, rows);
 }

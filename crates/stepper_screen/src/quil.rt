@@ -1,12 +1,5 @@
 // A program's rows as text in the manner of Quil.
-use crate::print::byte;
-use crate::print::name;
-use crate::print::number;
-use crate::print::real;
-use crate::print::reference;
-use crate::print::signed;
-use crate::print::text;
-use crate::view::View;
+use crate::line::Line;
 use stepper_tables::list::item;
 use stepper_tables::list::line_of;
 use stepper_tables::names::NAME_WORDS;
@@ -24,197 +17,176 @@ use tables::rows::argument_at;
 use tables::rows::node_at;
 use tables::source;
 
-// A longer expression or argument list is cut.
-const SHOWN: u64 = 24;
-
 // A STORE's first operand is a whole region.
-fn first(source: &[u8], names: &[u64; NAME_WORDS], view: View, x: Instruction) {
-    byte(b' ');
+fn first(line: Line, source: &[u8], names: &[u64; NAME_WORDS], x: Instruction) -> Line {
+    let next = line.with(b' ');
     if x.family == family::STORE {
-        name(source, names, view, x.first_name);
-    } else {
-        reference(source, names, view, x.first_name, x.first_index);
+        return next.name(source, names, x.first_name).whole();
     }
+    next.reference(source, names, x.first_name, x.first_index)
+        .whole()
 }
 
 // Comparison, exchange, load and store have a second operand; a LOAD's is a whole region.
-fn second(source: &[u8], names: &[u64; NAME_WORDS], view: View, x: Instruction) {
+fn second(line: Line, source: &[u8], names: &[u64; NAME_WORDS], x: Instruction) -> Line {
     let family = x.family;
     match family {
-        family::COMPARISON | family::EXCHANGE | family::STORE => {
-            byte(b' ');
-            reference(source, names, view, x.second_name, x.second_index)
-        }
-        family::LOAD => {
-            byte(b' ');
-            name(source, names, view, x.second_name)
-        }
-        _ => {}
+        family::COMPARISON | family::EXCHANGE | family::STORE => line.with(b' ')
+            .reference(source, names, x.second_name, x.second_index)
+            .whole(),
+        family::LOAD => line.with(b' ').name(source, names, x.second_name).whole(),
+        _ => line,
     }
 }
 
-fn source_operand(source: &[u8], names: &[u64; NAME_WORDS], view: View, x: Instruction) {
+fn source_operand(line: Line, source: &[u8], names: &[u64; NAME_WORDS], x: Instruction) -> Line {
     let form = x.source_form;
     match form {
-        source::INTEGER_LITERAL => {
-            byte(b' ');
-            signed(x.source_first)
-        }
-        source::REAL_LITERAL => {
-            byte(b' ');
-            real(x.source_first, view)
-        }
-        source::REFERENCE => {
-            byte(b' ');
-            reference(source, names, view, x.source_first, x.source_second)
-        }
-        _ => {}
+        source::INTEGER_LITERAL => line.with(b' ').signed(x.source_first).whole(),
+        source::REAL_LITERAL => line.with(b' ').real(x.source_first).whole(),
+        source::REFERENCE => line.with(b' ')
+            .reference(source, names, x.source_first, x.source_second)
+            .whole(),
+        _ => line,
     }
 }
 
-pub fn complex(real_bits: u64, imaginary_bits: u64, view: View) {
-    real(real_bits, view);
-    if imaginary_bits != 0 {
-        byte(b'+');
-        real(imaginary_bits, view);
-        byte(b'i');
+pub fn complex(line: Line, real_bits: u64, imaginary_bits: u64) -> Line {
+    let real = line.real(real_bits);
+    if imaginary_bits == 0 {
+        return real;
     }
+    real.with(b'+').real(imaginary_bits).with(b'i')
 }
 
 // A node: a parent by its tag's name, its children after it.
-fn node(source: &[u8], names: &[u64; NAME_WORDS], view: View, x: Node) {
+fn node(line: Line, source: &[u8], names: &[u64; NAME_WORDS], x: Node) -> Line {
     let nodes = NODES;
     let tag = x.tag;
-    byte(b' ');
     match tag {
-        node_tag::ADDRESS => reference(source, names, view, x.first, x.second),
-        node_tag::NUMBER => complex(x.first, x.second, view),
-        node_tag::VARIABLE => {
-            byte(b'%');
-            name(source, names, view, x.first)
-        }
-        _ => text(item(&nodes, tag)),
+        node_tag::ADDRESS => line.reference(source, names, x.first, x.second),
+        node_tag::NUMBER => complex(line, x.first, x.second),
+        node_tag::VARIABLE => line.with(b'%').name(source, names, x.first),
+        _ => line.text(item(&nodes, tag)),
     }
 }
 
 // A node that the table has.
-fn node_row(source: &[u8], names: &[u64; NAME_WORDS], view: View, nodes: &[u64], row: usize) {
+fn node_row(
+    line: Line,
+    source: &[u8],
+    names: &[u64; NAME_WORDS],
+    nodes: &[u64],
+    row: usize,
+) -> Line {
     if row < nodes.len() / NODE_WIDTH {
-        node(source, names, view, node_at(nodes, row));
+        return node(line.with(b' '), source, names, node_at(nodes, row)).whole();
     }
+    line
 }
 
 fn expression(
+    line: Line,
     source: &[u8],
     names: &[u64; NAME_WORDS],
-    view: View,
     nodes: &[u64],
     first_node: u64,
     count: u64,
-) {
+) -> Line {
+    let mut made = line;
     let mut i = 0;
     while i < count {
-        if i >= SHOWN {
-            text(b" ..");
+        if !made.fits() {
             break;
         }
-        node_row(
-            source,
-            names,
-            view,
-            nodes,
-            std::num::wrapping_add_u64(first_node, i) as usize,
-        );
+        let row = std::num::wrapping_add_u64(first_node, i) as usize;
+        made = node_row(made, source, names, nodes, row);
         i += 1;
     }
+    made
 }
 
-pub fn argument(source: &[u8], names: &[u64; NAME_WORDS], view: View, x: Argument) {
+pub fn argument(line: Line, source: &[u8], names: &[u64; NAME_WORDS], x: Argument) -> Line {
     let form = x.form;
     match form {
-        argument_form::IDENTIFIER => name(source, names, view, x.first),
-        argument_form::REFERENCE => reference(source, names, view, x.first, x.second),
-        _ => complex(x.first, x.second, view),
+        argument_form::IDENTIFIER => line.name(source, names, x.first),
+        argument_form::REFERENCE => line.reference(source, names, x.first, x.second),
+        _ => complex(line, x.first, x.second),
     }
 }
 
 // An argument that the table has.
 fn argument_row(
+    line: Line,
     source: &[u8],
     names: &[u64; NAME_WORDS],
-    view: View,
     arguments: &[u64],
     row: usize,
-) {
+) -> Line {
     if row < arguments.len() / ARGUMENT_WIDTH {
-        byte(b' ');
-        argument(source, names, view, argument_at(arguments, row));
+        return argument(line.with(b' '), source, names, argument_at(arguments, row)).whole();
     }
+    line
 }
 
 fn argument_list(
+    line: Line,
     source: &[u8],
     names: &[u64; NAME_WORDS],
-    view: View,
     arguments: &[u64],
     first_argument: u64,
     count: u64,
-) {
+) -> Line {
+    let mut made = line;
     let mut i = 0;
     while i < count {
-        if i >= SHOWN {
-            text(b" ..");
+        if !made.fits() {
             break;
         }
-        argument_row(
-            source,
-            names,
-            view,
-            arguments,
-            std::num::wrapping_add_u64(first_argument, i) as usize,
-        );
+        let row = std::num::wrapping_add_u64(first_argument, i) as usize;
+        made = argument_row(made, source, names, arguments, row);
         i += 1;
     }
+    made
 }
 
 // A family or an operator that there is not is shown by its numbers.
-fn mnemonic(family: u64, operator: u64) {
+fn mnemonic(line: Line, family: u64, operator: u64) -> Line {
     let mnemonics = MNEMONICS;
     let word = item(line_of(&mnemonics, family), operator);
     if word.len() > 0 {
-        text(word);
-    } else {
-        text(b"family ");
-        number(family);
-        text(b" operator ");
-        number(operator);
+        return line.text(word).whole();
     }
+    line.text(b"family ")
+        .number(family)
+        .text(b" operator ")
+        .number(operator)
+        .whole()
 }
 
-fn operands(source: &[u8], names: &[u64; NAME_WORDS], view: View, x: Instruction) {
-    first(source, names, view, x);
-    second(source, names, view, x);
-    source_operand(source, names, view, x);
+fn operands(line: Line, source: &[u8], names: &[u64; NAME_WORDS], x: Instruction) -> Line {
+    let firsts = first(line, source, names, x);
+    let both = second(firsts, source, names, x);
+    source_operand(both, source, names, x)
 }
 
 pub fn row_text(
+    line: Line,
     source: &[u8],
     names: &[u64; NAME_WORDS],
-    view: View,
     nodes: &[u64],
     arguments: &[u64],
     x: Instruction,
-) {
+) -> Line {
     let family = x.family;
-    mnemonic(family, x.operator);
+    let headed = mnemonic(line, family, x.operator);
     match family {
-        family::FRAME => expression(source, names, view, nodes, x.first_name, x.first_index),
+        family::FRAME => expression(headed, source, names, nodes, x.first_name, x.first_index),
         family::CALL => {
-            byte(b' ');
-            name(source, names, view, x.first_name);
-            argument_list(source, names, view, arguments, x.first_index, x.second_name)
+            let call = headed.with(b' ').name(source, names, x.first_name).whole();
+            argument_list(call, source, names, arguments, x.first_index, x.second_name)
         }
-        family::OTHER => {}
-        _ => operands(source, names, view, x),
+        family::OTHER => headed,
+        _ => operands(headed, source, names, x),
     }
 }

@@ -1,45 +1,267 @@
-// The regions with their cells.
-use crate::cells::cell_at;
+// The regions with their cells, a line each: where not all lines fit, first those of regions that the last step changed, then of those that the current row names.
+ghost use Prim.Native.Nat.{_<_};
+ghost use Rattle.tables.specs.Rows.{regionRows};
+use crate::cells::Span;
+use crate::cells::cells_of;
 use crate::cells::held;
+use crate::changes::changed;
+use crate::changes::differs;
+use crate::line::Line;
+use crate::line::shown;
 use crate::print::byte;
-use crate::print::name;
-use crate::print::number;
-use crate::print::text;
-use crate::print::value;
-use crate::print::vector;
+use crate::print::style;
 use crate::view::View;
-use operands::address::Indexed;
 use stepper_tables::names::NAME_WORDS;
-use tables::cells::CELL_LIMIT;
+use tables::rows::REGION_LIMIT;
 use tables::rows::REGION_WIDTH;
+use tables::rows::Region;
 use tables::rows::region_at;
 
-// Cells of a region that are shown, unless all are.
-const CELLS: u64 = 16;
+// Lines that are shown, unless all are; fewer where the program is not opened, since what is wrong with it stands above.
+const LINES: usize = 10;
 
-fn cell(regions: &[u64], memory: &[u64], view: View, r: usize, index: u64) {
-    let at = cell_at(regions, r, index);
-    let Indexed::At(place) = at else {
-        return;
-    };
-    let held = held(memory, place);
-    text(b"  [");
-    number(index);
-    text(b"] ");
-    value(held.kind, held.word, view);
+const LINES_UNOPENED: usize = 3;
+
+// Which regions a look through the table shows.
+enum Rank {
+    Any,
+    Changed,
+    Named,
+    Other,
 }
 
-fn cells(regions: &[u64], memory: &[u64], view: View, r: usize, length: u64) {
-    let shown = if view.all { CELL_LIMIT as u64 } else { CELLS };
+// A look through the table: lines left, and regions left out so far.
+struct Look {
+    rank: Rank,
+    lines: usize,
+    left_out: usize,
+}
+
+impl Look {
+    fn takes(self, changed: bool, named: bool) -> bool {
+        let rank = self.rank;
+        match rank {
+            Rank::Any => true,
+            Rank::Changed => changed,
+            Rank::Named => !changed & named,
+            Rank::Other => !(changed | named),
+        }
+    }
+
+    fn then(self, rank: Rank) -> Look {
+        Look {
+            rank,
+            lines: self.lines,
+            left_out: self.left_out,
+        }
+    }
+
+    fn lines_less(self) -> Look {
+        let mut next = self;
+        next.lines = std::num::wrapping_sub_usize(self.lines, 1);
+        next
+    }
+
+    fn leaving_out(self) -> Look {
+        let mut next = self;
+        next.left_out = std::num::wrapping_add_usize(self.left_out, 1);
+        next
+    }
+}
+
+// A cell; where it changed, its old value first.
+fn cell(
+    line: Line,
+    before: &[u64],
+    after: &[u64],
+    first: usize,
+    index: u64,
+    only_changed: bool,
+) -> Line {
+    let place = std::num::wrapping_add_usize(first, index as usize);
+    let old = held(before, place);
+    let new = held(after, place);
+    let differs = differs(old, new);
+    if only_changed & !differs {
+        return line;
+    }
+    let numbered = line.text(b"  [").number(index).text(b"] ");
+    let changed = if differs {
+        numbered.value(old.kind, old.word).text(b" -> ")
+    } else {
+        numbered
+    };
+    changed.value(new.kind, new.word).whole()
+}
+
+fn cells(line: Line, before: &[u64], after: &[u64], cells: Span, only_changed: bool) -> Line {
+    let mut made = line;
     let mut i = 0;
-    while i < length {
-        if i >= shown {
-            text(b"  ..");
+    while i < cells.count {
+        if !made.fits() {
             break;
         }
-        cell(regions, memory, view, r, i);
+        made = cell(made, before, after, cells.first, i, only_changed);
         i += 1;
     }
+    made
+}
+
+fn headed(line: Line, source: &[u8], names: &[u64; NAME_WORDS], region: Region) -> Line {
+    line.text(b"  ")
+        .name(source, names, region.name)
+        .with(b' ')
+        .vector(region.kind, region.length)
+        .whole()
+}
+
+// A line too long, with a long name shortened. Where that is not enough, of a region that changed the changed cells alone, and without its kind if need be.
+fn cut_line(
+    source: &[u8],
+    names: &[u64; NAME_WORDS],
+    view: View,
+    region: Region,
+    before: &[u64],
+    after: &[u64],
+    span: Span,
+    changed: bool,
+) -> Line {
+    let line = Line::new(view).shortened();
+    let head = headed(line, source, names, region);
+    let made = cells(head, before, after, span, false);
+    if made.fits() | !changed {
+        return made;
+    }
+    let only = cells(head, before, after, span, true);
+    if only.is_whole() {
+        return only.cut();
+    }
+    let tight = line.tight().text(b"  ").name(source, names, region.name);
+    cells(tight.whole(), before, after, span, true).cut()
+}
+
+fn region_line(
+    source: &[u8],
+    names: &[u64; NAME_WORDS],
+    view: View,
+    region: Region,
+    before: &[u64],
+    after: &[u64],
+    span: Span,
+    changed: bool,
+) {
+    if changed {
+        style(view, b"32");
+    }
+    let head = headed(Line::new(view), source, names, region);
+    let whole = cells(head, before, after, span, false);
+    if whole.fits() {
+        whole.print();
+    } else {
+        cut_line(source, names, view, region, before, after, span, changed).print();
+    }
+    if changed {
+        style(view, b"0");
+    }
+    byte(b'\n');
+}
+
+// Where the region's cells lie; none, where the program is not opened.
+fn shown_cells(view: View, regions: &[u64], r: usize) -> Span {
+    if view.cells {
+        return cells_of(regions, r);
+    }
+    Span { first: 0, count: 0 }
+}
+
+// A region's line, where the look takes it and has a line left.
+fn looked_at(
+    source: &[u8],
+    names: &[u64; NAME_WORDS],
+    view: View,
+    regions: &[u64],
+    before: &[u64],
+    after: &[u64],
+    named: &[bool; REGION_LIMIT],
+    r: usize,
+    look: Look,
+) -> Look
+    requires { ⌜ r < regionRows (now regions) ⌝ }
+{
+    let span = shown_cells(view, regions, r);
+    let changed = changed(before, after, span.first, span.count);
+    if !look.takes(changed, is_named(named, r)) {
+        return look;
+    }
+    if look.lines == 0 {
+        return look.leaving_out();
+    }
+    let region = region_at(regions, r);
+    region_line(source, names, view, region, before, after, span, changed);
+    look.lines_less()
+}
+
+fn is_named(named: &[bool; REGION_LIMIT], r: usize) -> bool {
+    if r < REGION_LIMIT { named[r] } else { false }
+}
+
+// Looks through the table once.
+fn looked_through(
+    source: &[u8],
+    names: &[u64; NAME_WORDS],
+    view: View,
+    regions: &[u64],
+    before: &[u64],
+    after: &[u64],
+    named: &[bool; REGION_LIMIT],
+    look: Look,
+) -> Look {
+    let rows = regions.len() / REGION_WIDTH;
+    let mut now = look;
+    let mut r = 0;
+    while r < rows {
+        now = looked_at(source, names, view, regions, before, after, named, r, now);
+        r += 1;
+    }
+    now
+}
+
+fn regions_left_out(view: View, changed: usize, all: usize) {
+    let line = Line::new(view).text(b"  .. ").number(all as u64);
+    let regions = line.text(b" more regions");
+    let told = if changed > 0 {
+        regions
+            .text(b", ")
+            .number(changed as u64)
+            .text(b" of them changed")
+    } else {
+        regions
+    };
+    told.text(b": m shows all").end();
+}
+
+// The lines of some regions, and how many are left out.
+fn some_lines(
+    source: &[u8],
+    names: &[u64; NAME_WORDS],
+    view: View,
+    regions: &[u64],
+    before: &[u64],
+    after: &[u64],
+    named: &[bool; REGION_LIMIT],
+    lines: usize,
+) {
+    let look = Look {
+        rank: Rank::Changed,
+        lines,
+        left_out: 0,
+    };
+    let changed = looked_through(source, names, view, regions, before, after, named, look);
+    let next = changed.then(Rank::Named);
+    let mentioned = looked_through(source, names, view, regions, before, after, named, next);
+    let last = mentioned.then(Rank::Other);
+    let all = looked_through(source, names, view, regions, before, after, named, last);
+    regions_left_out(view, changed.left_out, all.left_out);
 }
 
 // The regions' rows, with cells where the program is opened.
@@ -48,21 +270,21 @@ pub fn region_lines(
     names: &[u64; NAME_WORDS],
     view: View,
     regions: &[u64],
-    memory: &[u64],
-    opened: bool,
+    before: &[u64],
+    after: &[u64],
+    named: &[bool; REGION_LIMIT],
 ) {
     let rows = regions.len() / REGION_WIDTH;
-    let mut r = 0;
-    while r < rows {
-        let region = region_at(regions, r);
-        text(b"  ");
-        name(source, names, view, region.name);
-        byte(b' ');
-        vector(region.kind, region.length);
-        if opened {
-            cells(regions, memory, view, r, region.length);
-        }
-        byte(b'\n');
-        r += 1;
+    let most = if view.cells { LINES } else { LINES_UNOPENED };
+    let lines = shown(view, rows, most);
+    if lines < rows {
+        some_lines(source, names, view, regions, before, after, named, lines);
+        return;
     }
+    let look = Look {
+        rank: Rank::Any,
+        lines,
+        left_out: 0,
+    };
+    looked_through(source, names, view, regions, before, after, named, look);
 }

@@ -5,22 +5,28 @@ use Rattle.stepper_desk.proofs.about.set.Statement.{statement}
 use Rattle.stepper_desk.proofs.about.set.Tie as tie
 
 abbrev Inv-loop : tie.InvT-loop
-Inv-loop source names view list count i₀ i = Unit {0}
+Inv-loop source names list count made₀ i₀ made i = Unit {0}
 
 abbrev μ-loop : tie.MeasureT-loop
-μ-loop source names view list count i₀ i = count - i
+μ-loop source names list count made₀ i₀ made i = count - i
 
 loop-holds : tie.Need-loop-holds Inv-loop μ-loop
 loop-holds c = search needs
 
-byte-requires : tie.Need-byte-requires Inv-loop μ-loop
-byte-requires c κs = search needs
+fits-requires : tie.Need-fits-requires Inv-loop μ-loop
+fits-requires c κs = search needs
+
+with-requires : tie.Need-with-requires Inv-loop μ-loop
+with-requires c κs = search needs
 
 word-of-requires : tie.Need-word-of-requires Inv-loop μ-loop
 word-of-requires c κs = search needs
 
 name-requires : tie.Need-name-requires Inv-loop μ-loop
 name-requires c κs = search needs
+
+whole-requires : tie.Need-whole-requires Inv-loop μ-loop
+whole-requires c κs = search needs
 
 add-i : tie.Need-add-i Inv-loop μ-loop
 add-i c = search needs
@@ -31,11 +37,11 @@ loop-less c = search needs
 loop-again : tie.Need-loop-again Inv-loop μ-loop
 loop-again c = search needs
 
-byte-requires-2 : tie.Need-byte-requires-2 Inv-loop μ-loop
-byte-requires-2 c κs = search needs
-
 returns : tie.Need-returns Inv-loop μ-loop
 returns c = search needs
+
+returns-2 : tie.Need-returns-2 Inv-loop μ-loop
+returns-2 c = search needs
 
 pub set-spec : {M : Type 1} → statement M
 set-spec =
@@ -44,11 +50,13 @@ set-spec =
     Inv-loop
     μ-loop
     loop-holds
-    byte-requires
+    fits-requires
+    with-requires
     word-of-requires
     name-requires
+    whole-requires
     add-i
     loop-less
     loop-again
-    byte-requires-2
-    returns)
+    returns
+    returns-2)

@@ -4,10 +4,10 @@ use Rattle.stepper_keys.proofs.keys.turns.Statement.{statement}
 use Rattle.stepper_keys.proofs.keys.turns.Tie as tie
 
 abbrev Inv-loop : tie.InvT-loop
-Inv-loop buffer₀ names₀ tables₀ memory₀ journal₀ now₀ left₀ buffer names tables memory journal now left = Unit {0}
+Inv-loop buffer₀ names₀ tables₀ before₀ memory₀ journal₀ now₀ left₀ buffer names tables before memory journal now left = Unit {0}
 
 abbrev μ-loop : tie.MeasureT-loop
-μ-loop buffer₀ names₀ tables₀ memory₀ journal₀ now₀ left₀ buffer names tables memory journal now left = left
+μ-loop buffer₀ names₀ tables₀ before₀ memory₀ journal₀ now₀ left₀ buffer names tables before memory journal now left = left
 
 loop-holds : tie.Need-loop-holds Inv-loop μ-loop
 loop-holds c = search needs

@@ -5,34 +5,19 @@ use Rattle.stepper_screen.proofs.program.program_rows.Statement.{statem
 use Rattle.stepper_screen.proofs.program.program_rows.Tie as tie
 
 abbrev Inv-loop : tie.InvT-loop
-Inv-loop source names view nodes arguments instructions done end row₀ t10 row = Unit {0}
+Inv-loop source names view nodes arguments instructions done rows window row₀ row = Unit {0}
 
 abbrev μ-loop : tie.MeasureT-loop
-μ-loop source names view nodes arguments instructions done end row₀ t10 row = end - row
+μ-loop source names view nodes arguments instructions done rows window row₀ row = window .end - row
 
-window-end-requires : tie.Need-window-end-requires Inv-loop μ-loop
-window-end-requires c κs = search needs
-
-window-start-requires : tie.Need-window-start-requires Inv-loop μ-loop
-window-start-requires c κs = search needs
+window-at-requires : tie.Need-window-at-requires Inv-loop μ-loop
+window-at-requires c κs = search needs
 
 loop-holds : tie.Need-loop-holds Inv-loop μ-loop
 loop-holds c = search needs
 
-mark-requires : tie.Need-mark-requires Inv-loop μ-loop
-mark-requires c κs = search needs
-
-row-line-requires : tie.Need-row-line-requires Inv-loop μ-loop
-row-line-requires c κs = search needs
-
-slice-aggregate-style : tie.Need-slice-aggregate-style Inv-loop μ-loop
-slice-aggregate-style c = search needs
-
-style-requires : tie.Need-style-requires Inv-loop μ-loop
-style-requires c κs = search needs
-
-byte-requires : tie.Need-byte-requires Inv-loop μ-loop
-byte-requires c κs = search needs
+screen-row-requires : tie.Need-screen-row-requires Inv-loop μ-loop
+screen-row-requires c κs = search needs
 
 add-row : tie.Need-add-row Inv-loop μ-loop
 add-row c = search needs
@@ -43,6 +28,12 @@ loop-less c = search needs
 loop-again : tie.Need-loop-again Inv-loop μ-loop
 loop-again c = search needs
 
+end-row-requires : tie.Need-end-row-requires Inv-loop μ-loop
+end-row-requires c κs = search needs
+
+rows-left-out-requires : tie.Need-rows-left-out-requires Inv-loop μ-loop
+rows-left-out-requires c κs = search needs
+
 returns : tie.Need-returns Inv-loop μ-loop
 returns c = search needs
 
@@ -52,15 +43,12 @@ program-rows-spec =
     (tie.spec
     Inv-loop
     μ-loop
-    window-end-requires
-    window-start-requires
+    window-at-requires
     loop-holds
-    mark-requires
-    row-line-requires
-    slice-aggregate-style
-    style-requires
-    byte-requires
+    screen-row-requires
     add-row
     loop-less
     loop-again
+    end-row-requires
+    rows-left-out-requires
     returns)

@@ -5,19 +5,16 @@ use Rattle.stepper_screen.proofs.quil.argument_list.Statement.{statemen
 use Rattle.stepper_screen.proofs.quil.argument_list.Tie as tie
 
 abbrev Inv-loop : tie.InvT-loop
-Inv-loop source names view arguments first-argument count i₀ t8 i = Unit {0}
+Inv-loop source names arguments first-argument count made₀ i₀ made i = Unit {0}
 
 abbrev μ-loop : tie.MeasureT-loop
-μ-loop source names view arguments first-argument count i₀ t8 i = count - i
+μ-loop source names arguments first-argument count made₀ i₀ made i = count - i
 
 loop-holds : tie.Need-loop-holds Inv-loop μ-loop
 loop-holds c = search needs
 
-slice-aggregate-text : tie.Need-slice-aggregate-text Inv-loop μ-loop
-slice-aggregate-text c = search needs
-
-text-requires : tie.Need-text-requires Inv-loop μ-loop
-text-requires c κs = search needs
+fits-requires : tie.Need-fits-requires Inv-loop μ-loop
+fits-requires c κs = search needs
 
 wrapping-add-u64-requires : tie.Need-wrapping-add-u64-requires Inv-loop μ-loop
 wrapping-add-u64-requires c κs = search needs
@@ -47,8 +44,7 @@ argument-list-spec =
     Inv-loop
     μ-loop
     loop-holds
-    slice-aggregate-text
-    text-requires
+    fits-requires
     wrapping-add-u64-requires
     argument-row-requires
     add-i

@@ -5,19 +5,16 @@ use Rattle.stepper_screen.proofs.regions.cells.Statement.{statement}
 use Rattle.stepper_screen.proofs.regions.cells.Tie as tie
 
 abbrev Inv-loop : tie.InvT-loop
-Inv-loop regions memory view r length shown i₀ t8 i = Unit {0}
+Inv-loop before after cells only-changed made₀ i₀ made i = Unit {0}
 
 abbrev μ-loop : tie.MeasureT-loop
-μ-loop regions memory view r length shown i₀ t8 i = length - i
+μ-loop before after cells only-changed made₀ i₀ made i = cells .count - i
 
 loop-holds : tie.Need-loop-holds Inv-loop μ-loop
 loop-holds c = search needs
 
-slice-aggregate-text : tie.Need-slice-aggregate-text Inv-loop μ-loop
-slice-aggregate-text c = search needs
-
-text-requires : tie.Need-text-requires Inv-loop μ-loop
-text-requires c κs = search needs
+fits-requires : tie.Need-fits-requires Inv-loop μ-loop
+fits-requires c κs = search needs
 
 cell-requires : tie.Need-cell-requires Inv-loop μ-loop
 cell-requires c κs = search needs
@@ -44,8 +41,7 @@ cells-spec =
     Inv-loop
     μ-loop
     loop-holds
-    slice-aggregate-text
-    text-requires
+    fits-requires
     cell-requires
     add-i
     loop-less
