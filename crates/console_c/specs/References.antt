@@ -1,4 +1,4 @@
--- console_references: "On 0 rows holds count rows .., place is the place to go on from"; otherwise none of the three is written.
+-- console_references: "On 0 rows holds count references, and place is the place to go on from." Otherwise none of the three is written.
 use Prim.Native.Nat.{ℕ}
 use mathlib.Core.List.{List}
 use lib.ListN.{getD, set}
@@ -16,12 +16,12 @@ pub record ListedWords : Type 0 where
 abbrev pub listedWords : ℕ → List ℕ → List ℕ → List ℕ → ListedWords
 listedWords number place rows count = record { number = number; place = place; rows = rows; count = count }
 
--- "On 0 .. place is the place to go on from"
+-- "On 0 .. place is the place to go on from."
 abbrev pub placeToGoOn : ReferencesAnswer → List ℕ → List ℕ
 placeToGoOn (Refused number) place = place
 placeToGoOn (Handed h) place = set place 0 (h .place)
 
--- "On 0 rows holds count rows"
+-- "On 0 rows holds count references"
 abbrev pub countAfter : ReferencesAnswer → List ℕ → List ℕ
 countAfter (Refused number) count = count
 countAfter (Handed h) count = set count 0 (h .count)
