@@ -12,6 +12,8 @@ from pathlib import Path
 
 sys.dont_write_bytecode = True
 HERE = Path(__file__).resolve().parent
+# The bytes that the program reads.
+TEXT = 1048576
 sys.path.insert(0, str(HERE))
 
 from cases import accepted, backs, calls, lines, lists, loads, opens, orders, quil_rs, refused, resolutions, verdicts, walks, worked  # noqa: E402
@@ -23,7 +25,9 @@ def main():
     script.heading('a call and its number | what it answers | memory words changed | journal words changed')
     for group in (lines, worked, accepted, refused, calls, orders, opens, backs, lists, loads, verdicts, resolutions, walks, quil_rs):
         group.write(script)
-    (HERE / 'stdin').write_text('\n'.join(script.lines) + '\n')
+    played = '\n'.join(script.lines) + '\n'
+    assert len(played) <= TEXT, 'the program reads no more than this'
+    (HERE / 'stdin').write_text(played)
     (HERE / 'stdout').write_text('\n'.join(script.answers) + '\n')
 
 

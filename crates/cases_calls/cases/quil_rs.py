@@ -59,9 +59,9 @@ def accessed(script, words):
 def walked(script, words):
     first, count, steps = words.take(3)
     for step in range(steps):
-        found, *reference = words.take(3)
-        script.walk(first, count, 0 if step == 0 else None)
-        expected = line('walk', 0, [*reference, script.position[0]] if found else [script.position[0]])
+        found = words.take(3)
+        script.reference(first, count, 0 if step == 0 else None)
+        expected = line('reference', 0, [script.passed, *found])
         assert script.answers[-1] == expected, (script.answers[-1], expected)
     return script.answers[-1]
 

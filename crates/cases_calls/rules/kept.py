@@ -1,4 +1,4 @@
-"""The calls that take tables alone: check, resolve, access and the walk."""
+"""The calls that take tables alone: check, resolve, access and the walk; and the loader's look at a chosen row."""
 from .calls import ERROR_WORDS, Failed, access_sets, error_rows, resolve_all
 from .check import type_error
 from .outcome import Refused, TypeErrors, need
@@ -13,11 +13,16 @@ class ArgumentErrors(Refused):
         self.error = (count,)
 
 
-def loaded(words, row=None):
-    """The decoded tables, after the refusals 1, 2 and 3; a chosen row is a CALL."""
-    refusal = load(words, row, CALL)
+def loaded(words, row=None, family=CALL):
+    """The decoded tables, after the refusals 1, 2 and 3; a chosen row is of the family."""
+    refusal = load(words, row, family)
     need(refusal == 0, refusal)
     return decoded(words)
+
+
+def look(words, row, family):
+    loaded(words, row, family)
+    return ()
 
 
 def check(words):
@@ -52,13 +57,18 @@ def access(words, row, reads, writes):
     return len(read), len(written)
 
 
-def walk(nodes, first, count, place):
-    """The next reference from a place, with the nodes passed then; at the end these alone."""
+def tree_of(nodes, first, count) -> list[Node]:
+    """The nodes of the range, after the refusals 1 and 2."""
     need(table_sized(nodes, NODE_TABLE), 1)
     rows = rows_of(nodes, NODE_TABLE)
     need(all(map(node_allowed, rows)) and first + count <= len(rows) and one_tree(rows[first:first + count]), 2)
-    tree: list[Node] = rows[first:first + count]
+    return rows[first:first + count]
+
+
+def reference(nodes, first, count, place):
+    """The nodes passed, and 1 with the next reference from a place on, or zeros at the end."""
+    tree = tree_of(nodes, first, count)
     for at in range(place, count):
         if tree[at].tag == ADDRESS:
-            return tree[at].left, tree[at].right, at + 1
-    return count,
+            return at + 1, 1, tree[at].left, tree[at].right
+    return count, 0, 0, 0

@@ -5,23 +5,76 @@ use script::fill::fill;
 use script::line::least;
 use script::token::token_at;
 
-// Room for a row more than the limits allow; the six tables lie one after the other, and then the numbers that are given to a call.
+// Room for a row more than the limits allow.
 pub const ROOM: usize = 6150;
 
-pub const TABLE_WORDS: usize = 43050;
+// The six tables lie one after the other, and then the numbers that are given to a call.
+pub const TABLE_WORDS: usize = 7 * ROOM;
 
 pub const MEMORY_WORDS: usize = 8200;
 
 pub const JOURNAL_WORDS: usize = 6150;
 
-// How many lists there are, and where the lengths of those that are no table stand.
-pub const LENT: usize = 9;
+// The lists that are lent.
+pub const LISTS: usize = 9;
 
-pub const GIVEN: usize = 6;
+pub enum Lent {
+    Regions,
+    Externs,
+    Parameters,
+    Nodes,
+    Arguments,
+    Instructions,
+    Given,
+    Memory,
+    Journal,
+}
 
-pub const MEMORY: usize = 7;
+impl Lent {
+    // Its place among the lists, where its length stands.
+    pub fn number(self) -> usize
+        ensures { λ r. ⌜ r < 9 ⌝ }
+    {
+        match self {
+            Lent::Regions => 0,
+            Lent::Externs => 1,
+            Lent::Parameters => 2,
+            Lent::Nodes => 3,
+            Lent::Arguments => 4,
+            Lent::Instructions => 5,
+            Lent::Given => 6,
+            Lent::Memory => 7,
+            Lent::Journal => 8,
+        }
+    }
+}
 
-pub const JOURNAL: usize = 8;
+// A table by its sign.
+fn table_of(sign: u8) -> Lent {
+    match sign {
+        b'R' => Lent::Regions,
+        b'E' => Lent::Externs,
+        b'P' => Lent::Parameters,
+        b'N' => Lent::Nodes,
+        b'A' => Lent::Arguments,
+        b'I' => Lent::Instructions,
+        _ => Lent::Given,
+    }
+}
+
+// The words of a table, or the numbers that are given to a call.
+pub fn words_of(tables: &[u64], lengths: [u64; LISTS], which: Lent) -> &[u64] {
+    let number = which.number();
+    let first = least(number * ROOM, tables.len());
+    let end = first + least(lengths[number] as usize, tables.len() - first);
+    &tables[first..end]
+}
+
+// A number that is given to a call.
+pub fn given(tables: &[u64], lengths: [u64; LISTS], i: usize) -> u64 {
+    let numbers = words_of(tables, lengths, Lent::Given);
+    if i < numbers.len() { numbers[i] } else { 0 }
+}
 
 // The first words over and over, up to a length.
 fn repeat(words: &mut [u64], first: usize, end: usize)
@@ -43,40 +96,25 @@ fn mark(words: &mut [u64]) {
     }
 }
 
-fn table_of(sign: u8) -> usize
-    ensures { λ r. ⌜ r < 7 ⌝ }
-{
-    match sign {
-        b'R' => 0,
-        b'E' => 1,
-        b'P' => 2,
-        b'N' => 3,
-        b'A' => 4,
-        b'I' => 5,
-        _ => GIVEN,
-    }
-}
-
 // `n k w..`: a table of n words, the k given ones over and over. The place after it.
 pub fn set_table(
     sign: u8,
     text: &[u8],
     at: usize,
     tables: &mut [u64],
-    lengths: &mut [u64; LENT],
-) -> usize
-    requires { ⌜ 43050 ≤ length (now tables) ⌝ }
-{
-    let which = table_of(sign);
-    let first = which * ROOM;
+    lengths: &mut [u64; LISTS],
+) -> usize {
+    let number = table_of(sign).number();
+    let first = least(number * ROOM, tables.len());
+    let room = least(ROOM, tables.len() - first);
     let all = token_at(text, at);
     let given = token_at(text, all.next);
     let count = given.number() as usize;
-    let end = least(all.number() as usize, ROOM);
-    let words = &mut tables[first..first + ROOM];
+    let end = least(all.number() as usize, room);
+    let words = &mut tables[first..first + room];
     let next = fill(text, given.next, words, count);
     repeat(words, count, end);
-    lengths[which] = end as u64;
+    lengths[number] = end as u64;
     next
 }
 
@@ -85,16 +123,14 @@ pub fn set_lent(
     text: &[u8],
     at: usize,
     words: &mut [u64],
-    which: usize,
-    lengths: &mut [u64; LENT],
-) -> usize
-    requires { ⌜ which < 9 ⌝ }
-{
+    which: Lent,
+    lengths: &mut [u64; LISTS],
+) -> usize {
     let all = token_at(text, at);
     let given = token_at(text, all.next);
     let end = least(all.number() as usize, words.len());
     let lent = &mut words[0..end];
     mark(lent);
-    lengths[which] = end as u64;
+    lengths[which.number()] = end as u64;
     fill(text, given.next, lent, given.number() as usize)
 }

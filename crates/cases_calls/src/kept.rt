@@ -1,0 +1,106 @@
+// The kept calls, through their C forms, and the loader's look at a chosen row, which no call of its own shows for a family other than CALL.
+use crate::lent::LISTS;
+use crate::lent::Lent;
+use crate::lent::given;
+use crate::lent::words_of;
+use crate::print::answered;
+use crate::print::written;
+use console_c::access::console_access;
+use console_c::check::console_check;
+use console_c::reference::console_reference;
+use console_c::resolve::console_resolve;
+use loader::load::load_row;
+use tables::look::Look;
+
+pub fn check(tables: &[u64], lengths: [u64; LISTS], error: &mut [u64; 6]) {
+    let number = console_check(
+        words_of(tables, lengths, Lent::Regions),
+        words_of(tables, lengths, Lent::Externs),
+        words_of(tables, lengths, Lent::Parameters),
+        words_of(tables, lengths, Lent::Nodes),
+        words_of(tables, lengths, Lent::Arguments),
+        words_of(tables, lengths, Lent::Instructions),
+        error,
+    );
+    answered(b"check", number);
+    written(error);
+}
+
+pub fn resolve(tables: &[u64], lengths: [u64; LISTS], rows: &mut [u64], count: &mut [u64; 1]) {
+    let number = console_resolve(
+        words_of(tables, lengths, Lent::Regions),
+        words_of(tables, lengths, Lent::Externs),
+        words_of(tables, lengths, Lent::Parameters),
+        words_of(tables, lengths, Lent::Nodes),
+        words_of(tables, lengths, Lent::Arguments),
+        words_of(tables, lengths, Lent::Instructions),
+        given(tables, lengths, 0),
+        rows,
+        count,
+    );
+    answered(b"resolve", number);
+    written(count);
+}
+
+pub fn access(
+    tables: &[u64],
+    lengths: [u64; LISTS],
+    reads: &mut [u64],
+    writes: &mut [u64],
+    counts: &mut [u64; 2],
+) {
+    let number = console_access(
+        words_of(tables, lengths, Lent::Regions),
+        words_of(tables, lengths, Lent::Externs),
+        words_of(tables, lengths, Lent::Parameters),
+        words_of(tables, lengths, Lent::Nodes),
+        words_of(tables, lengths, Lent::Arguments),
+        words_of(tables, lengths, Lent::Instructions),
+        given(tables, lengths, 0),
+        reads,
+        writes,
+        counts,
+    );
+    answered(b"access", number);
+    written(counts);
+}
+
+// A step from a place.
+pub fn reference(
+    tables: &[u64],
+    lengths: [u64; LISTS],
+    place: &mut [u64; 1],
+    found: &mut [u64; 3],
+) {
+    let number = console_reference(
+        words_of(tables, lengths, Lent::Nodes),
+        given(tables, lengths, 0),
+        given(tables, lengths, 1),
+        place,
+        found,
+    );
+    answered(b"reference", number);
+    written(place);
+    written(found);
+}
+
+fn number_of(look: Look) -> u64 {
+    match look {
+        Look::Accepted => 0,
+        Look::Refused(number) => number,
+    }
+}
+
+pub fn look(tables: &[u64], lengths: [u64; LISTS]) {
+    let seen = load_row(
+        words_of(tables, lengths, Lent::Regions),
+        words_of(tables, lengths, Lent::Externs),
+        words_of(tables, lengths, Lent::Parameters),
+        words_of(tables, lengths, Lent::Nodes),
+        words_of(tables, lengths, Lent::Arguments),
+        words_of(tables, lengths, Lent::Instructions),
+        given(tables, lengths, 0) as usize,
+        given(tables, lengths, 1),
+    );
+    answered(b"look", number_of(seen));
+}
