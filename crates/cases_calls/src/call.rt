@@ -1,9 +1,9 @@
 // A call on what is lent, and the line that tells of it.
 use crate::kept;
 use crate::lent::JOURNAL_WORDS;
-use crate::lent::LISTS;
 use crate::lent::Lent;
 use crate::lent::MEMORY_WORDS;
+use crate::lent::length_of;
 use crate::print::UNWRITTEN;
 use crate::print::changes;
 use crate::print::text;
@@ -15,28 +15,20 @@ use script::line::least;
 fn play(
     sign: u8,
     tables: &[u64],
-    lengths: [u64; LISTS],
     memory: &mut [u64],
     journal: &mut [u64],
     position: &mut [u64; 2],
     place: &mut [u64; 1],
 ) {
     match sign {
-        b'o' => steps::open(
-            tables,
-            lengths,
-            memory,
-            journal,
-            position,
-            &mut [UNWRITTEN; 6],
-        ),
-        b'f' => steps::forward(tables, lengths, memory, journal, position),
-        b'b' => steps::back(tables, lengths, memory, journal, position),
-        b'c' => kept::check(tables, lengths, &mut [UNWRITTEN; 6]),
-        b'v' => kept::resolve(tables, lengths, memory, &mut [UNWRITTEN; 1]),
-        b's' => kept::access(tables, lengths, memory, journal, &mut [UNWRITTEN; 2]),
-        b'w' => kept::reference(tables, lengths, place, &mut [UNWRITTEN; 3]),
-        b'l' => kept::look(tables, lengths),
+        b'o' => steps::open(tables, memory, journal, position, &mut [UNWRITTEN; 6]),
+        b'f' => steps::forward(tables, memory, journal, position),
+        b'b' => steps::back(tables, memory, journal, position),
+        b'c' => kept::check(tables, &mut [UNWRITTEN; 6]),
+        b'v' => kept::resolve(tables, memory, &mut [UNWRITTEN; 1]),
+        b's' => kept::access(tables, memory, journal, &mut [UNWRITTEN; 2]),
+        b'w' => kept::reference(tables, place, &mut [UNWRITTEN; 3]),
+        b'l' => kept::look(tables),
         _ => text(b"no call"),
     }
 }
@@ -53,7 +45,6 @@ fn copy(from: &[u64], to: &mut [u64]) {
 fn told(
     sign: u8,
     tables: &[u64],
-    lengths: [u64; LISTS],
     memory: &mut [u64],
     journal: &mut [u64],
     position: &mut [u64; 2],
@@ -63,7 +54,7 @@ fn told(
     let mut journal_before = [0; JOURNAL_WORDS];
     copy(memory, &mut memory_before);
     copy(journal, &mut journal_before);
-    play(sign, tables, lengths, memory, journal, position, place);
+    play(sign, tables, memory, journal, position, place);
     changes(&memory_before, memory);
     changes(&journal_before, journal);
     text(b"\n");
@@ -75,16 +66,14 @@ pub fn call(
     tables: &[u64],
     memory: &mut [u64],
     journal: &mut [u64],
-    lengths: [u64; LISTS],
     position: &mut [u64; 2],
     place: &mut [u64; 1],
 ) {
-    let words = least(lengths[Lent::Memory.number()] as usize, memory.len());
-    let entries = least(lengths[Lent::Journal.number()] as usize, journal.len());
+    let words = least(length_of(tables, Lent::Memory), memory.len());
+    let entries = least(length_of(tables, Lent::Journal), journal.len());
     told(
         sign,
         tables,
-        lengths,
         &mut memory[0..words],
         &mut journal[0..entries],
         position,

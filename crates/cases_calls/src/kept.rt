@@ -1,5 +1,4 @@
 // The kept calls, through their C forms, and the loader's look at a chosen row, which no call of its own shows for a family other than CALL.
-use crate::lent::LISTS;
 use crate::lent::Lent;
 use crate::lent::given;
 use crate::lent::words_of;
@@ -12,29 +11,29 @@ use console_c::resolve::console_resolve;
 use loader::load::load_row;
 use tables::look::Look;
 
-pub fn check(tables: &[u64], lengths: [u64; LISTS], error: &mut [u64; 6]) {
+pub fn check(tables: &[u64], error: &mut [u64; 6]) {
     let number = console_check(
-        words_of(tables, lengths, Lent::Regions),
-        words_of(tables, lengths, Lent::Externs),
-        words_of(tables, lengths, Lent::Parameters),
-        words_of(tables, lengths, Lent::Nodes),
-        words_of(tables, lengths, Lent::Arguments),
-        words_of(tables, lengths, Lent::Instructions),
+        words_of(tables, Lent::Regions),
+        words_of(tables, Lent::Externs),
+        words_of(tables, Lent::Parameters),
+        words_of(tables, Lent::Nodes),
+        words_of(tables, Lent::Arguments),
+        words_of(tables, Lent::Instructions),
         error,
     );
     answered(b"check", number);
     written(error);
 }
 
-pub fn resolve(tables: &[u64], lengths: [u64; LISTS], rows: &mut [u64], count: &mut [u64; 1]) {
+pub fn resolve(tables: &[u64], rows: &mut [u64], count: &mut [u64; 1]) {
     let number = console_resolve(
-        words_of(tables, lengths, Lent::Regions),
-        words_of(tables, lengths, Lent::Externs),
-        words_of(tables, lengths, Lent::Parameters),
-        words_of(tables, lengths, Lent::Nodes),
-        words_of(tables, lengths, Lent::Arguments),
-        words_of(tables, lengths, Lent::Instructions),
-        given(tables, lengths, 0),
+        words_of(tables, Lent::Regions),
+        words_of(tables, Lent::Externs),
+        words_of(tables, Lent::Parameters),
+        words_of(tables, Lent::Nodes),
+        words_of(tables, Lent::Arguments),
+        words_of(tables, Lent::Instructions),
+        given(tables, 0),
         rows,
         count,
     );
@@ -42,21 +41,15 @@ pub fn resolve(tables: &[u64], lengths: [u64; LISTS], rows: &mut [u64], count: &
     written(count);
 }
 
-pub fn access(
-    tables: &[u64],
-    lengths: [u64; LISTS],
-    reads: &mut [u64],
-    writes: &mut [u64],
-    counts: &mut [u64; 2],
-) {
+pub fn access(tables: &[u64], reads: &mut [u64], writes: &mut [u64], counts: &mut [u64; 2]) {
     let number = console_access(
-        words_of(tables, lengths, Lent::Regions),
-        words_of(tables, lengths, Lent::Externs),
-        words_of(tables, lengths, Lent::Parameters),
-        words_of(tables, lengths, Lent::Nodes),
-        words_of(tables, lengths, Lent::Arguments),
-        words_of(tables, lengths, Lent::Instructions),
-        given(tables, lengths, 0),
+        words_of(tables, Lent::Regions),
+        words_of(tables, Lent::Externs),
+        words_of(tables, Lent::Parameters),
+        words_of(tables, Lent::Nodes),
+        words_of(tables, Lent::Arguments),
+        words_of(tables, Lent::Instructions),
+        given(tables, 0),
         reads,
         writes,
         counts,
@@ -66,16 +59,11 @@ pub fn access(
 }
 
 // A step from a place.
-pub fn reference(
-    tables: &[u64],
-    lengths: [u64; LISTS],
-    place: &mut [u64; 1],
-    found: &mut [u64; 3],
-) {
+pub fn reference(tables: &[u64], place: &mut [u64; 1], found: &mut [u64; 3]) {
     let number = console_reference(
-        words_of(tables, lengths, Lent::Nodes),
-        given(tables, lengths, 0),
-        given(tables, lengths, 1),
+        words_of(tables, Lent::Nodes),
+        given(tables, 0),
+        given(tables, 1),
         place,
         found,
     );
@@ -91,16 +79,16 @@ fn number_of(look: Look) -> u64 {
     }
 }
 
-pub fn look(tables: &[u64], lengths: [u64; LISTS]) {
+pub fn look(tables: &[u64]) {
     let seen = load_row(
-        words_of(tables, lengths, Lent::Regions),
-        words_of(tables, lengths, Lent::Externs),
-        words_of(tables, lengths, Lent::Parameters),
-        words_of(tables, lengths, Lent::Nodes),
-        words_of(tables, lengths, Lent::Arguments),
-        words_of(tables, lengths, Lent::Instructions),
-        given(tables, lengths, 0) as usize,
-        given(tables, lengths, 1),
+        words_of(tables, Lent::Regions),
+        words_of(tables, Lent::Externs),
+        words_of(tables, Lent::Parameters),
+        words_of(tables, Lent::Nodes),
+        words_of(tables, Lent::Arguments),
+        words_of(tables, Lent::Instructions),
+        given(tables, 0) as usize,
+        given(tables, 1),
     );
     answered(b"look", number_of(seen));
 }

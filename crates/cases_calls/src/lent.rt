@@ -2,21 +2,21 @@
 ghost use Prim.Native.Nat.{_≤_, _<_};
 ghost use lib.ListN.{length};
 use script::fill::fill;
+use script::fill::put;
 use script::line::least;
 use script::token::token_at;
 
 // Room for a row more than the limits allow.
 pub const ROOM: usize = 6150;
 
-// The six tables lie one after the other, and then the numbers that are given to a call.
-pub const TABLE_WORDS: usize = 7 * ROOM;
+// The six tables lie one after the other, then the numbers that are given to a call, and then the lengths of all lists.
+const LENGTHS: usize = 7 * ROOM;
+
+pub const TABLE_WORDS: usize = LENGTHS + 9;
 
 pub const MEMORY_WORDS: usize = 8200;
 
 pub const JOURNAL_WORDS: usize = 6150;
-
-// The lists that are lent.
-pub const LISTS: usize = 9;
 
 pub enum Lent {
     Regions,
@@ -31,7 +31,7 @@ pub enum Lent {
 }
 
 impl Lent {
-    // Its place among the lists, where its length stands.
+    // Its place among the lists.
     pub fn number(self) -> usize
         ensures { λ r. ⌜ r < 9 ⌝ }
     {
@@ -62,17 +62,29 @@ fn table_of(sign: u8) -> Lent {
     }
 }
 
+fn set_length(tables: &mut [u64], which: Lent, length: usize) {
+    put(tables, LENGTHS + which.number(), length as u64);
+}
+
+pub fn length_of(tables: &[u64], which: Lent) -> usize {
+    let at = LENGTHS + which.number();
+    if at < tables.len() {
+        tables[at] as usize
+    } else {
+        0
+    }
+}
+
 // The words of a table, or the numbers that are given to a call.
-pub fn words_of(tables: &[u64], lengths: [u64; LISTS], which: Lent) -> &[u64] {
-    let number = which.number();
-    let first = least(number * ROOM, tables.len());
-    let end = first + least(lengths[number] as usize, tables.len() - first);
+pub fn words_of(tables: &[u64], which: Lent) -> &[u64] {
+    let first = least(which.number() * ROOM, tables.len());
+    let end = first + least(length_of(tables, which), tables.len() - first);
     &tables[first..end]
 }
 
 // A number that is given to a call.
-pub fn given(tables: &[u64], lengths: [u64; LISTS], i: usize) -> u64 {
-    let numbers = words_of(tables, lengths, Lent::Given);
+pub fn given(tables: &[u64], i: usize) -> u64 {
+    let numbers = words_of(tables, Lent::Given);
     if i < numbers.len() { numbers[i] } else { 0 }
 }
 
@@ -87,25 +99,21 @@ fn repeat(words: &mut [u64], first: usize, end: usize)
     }
 }
 
-// Words that tell by themselves where they stand.
+// Words that tell by themselves where they stand, from this one on.
+const MARK: u64 = 1000;
+
 fn mark(words: &mut [u64]) {
     let mut i = 0;
     while i < words.len() {
-        words[i] = i as u64 + 1000;
+        words[i] = i as u64 + MARK;
         i += 1;
     }
 }
 
 // `n k w..`: a table of n words, the k given ones over and over. The place after it.
-pub fn set_table(
-    sign: u8,
-    text: &[u8],
-    at: usize,
-    tables: &mut [u64],
-    lengths: &mut [u64; LISTS],
-) -> usize {
-    let number = table_of(sign).number();
-    let first = least(number * ROOM, tables.len());
+pub fn set_table(sign: u8, text: &[u8], at: usize, tables: &mut [u64]) -> usize {
+    let which = table_of(sign);
+    let first = least(which.number() * ROOM, tables.len());
     let room = least(ROOM, tables.len() - first);
     let all = token_at(text, at);
     let given = token_at(text, all.next);
@@ -114,7 +122,7 @@ pub fn set_table(
     let words = &mut tables[first..first + room];
     let next = fill(text, given.next, words, count);
     repeat(words, count, end);
-    lengths[number] = end as u64;
+    set_length(tables, which, end);
     next
 }
 
@@ -124,13 +132,13 @@ pub fn set_lent(
     at: usize,
     words: &mut [u64],
     which: Lent,
-    lengths: &mut [u64; LISTS],
+    tables: &mut [u64],
 ) -> usize {
     let all = token_at(text, at);
     let given = token_at(text, all.next);
     let end = least(all.number() as usize, words.len());
     let lent = &mut words[0..end];
     mark(lent);
-    lengths[which.number()] = end as u64;
+    set_length(tables, which, end);
     fill(text, given.next, lent, given.number() as usize)
 }

@@ -6,7 +6,6 @@
 // w: a walk's next reference, given the first node and the count. l: the loader's look, given a row and its family.
 use crate::call::call;
 use crate::lent::JOURNAL_WORDS;
-use crate::lent::LISTS;
 use crate::lent::Lent;
 use crate::lent::MEMORY_WORDS;
 use crate::lent::TABLE_WORDS;
@@ -41,22 +40,21 @@ fn command(
     tables: &mut [u64; TABLE_WORDS],
     memory: &mut [u64; MEMORY_WORDS],
     journal: &mut [u64; JOURNAL_WORDS],
-    lengths: &mut [u64; LISTS],
     position: &mut [u64; 2],
     place: &mut [u64; 1],
 ) -> usize {
     match sign {
         b'=' => heading(text, at),
-        b'M' => set_lent(text, at, memory, Lent::Memory, lengths),
-        b'J' => set_lent(text, at, journal, Lent::Journal, lengths),
-        b'A'..=b'R' => set_table(sign, text, at, tables, lengths),
+        b'M' => set_lent(text, at, memory, Lent::Memory, tables),
+        b'J' => set_lent(text, at, journal, Lent::Journal, tables),
+        b'A'..=b'R' => set_table(sign, text, at, tables),
         b't' => plant(text, at, tables),
         b'm' => plant(text, at, memory),
         b'j' => plant(text, at, journal),
         b'p' => fill(text, at, position, 2),
         b'k' => fill(text, at, place, 1),
         _ => {
-            call(sign, tables, memory, journal, *lengths, position, place);
+            call(sign, tables, memory, journal, position, place);
             at
         }
     }
@@ -67,7 +65,6 @@ pub fn play(text: &[u8]) {
     let mut tables = [0; TABLE_WORDS];
     let mut memory = [0; MEMORY_WORDS];
     let mut journal = [0; JOURNAL_WORDS];
-    let mut lengths = [0; LISTS];
     let mut position = [0; 2];
     let mut place = [0; 1];
     let mut at = 0;
@@ -84,7 +81,6 @@ pub fn play(text: &[u8]) {
             &mut tables,
             &mut memory,
             &mut journal,
-            &mut lengths,
             &mut position,
             &mut place,
         );

@@ -3,7 +3,7 @@ use libc::STDOUT_FILENO;
 use script::line::least;
 
 // What an out-array holds before a call; no answer of the cases has this word.
-pub const UNWRITTEN: u64 = 6148914691236517205;
+pub const UNWRITTEN: u64 = 0x5555555555555555;
 
 pub fn text(bytes: &[u8]) {
     io::write_all(STDOUT_FILENO, bytes);

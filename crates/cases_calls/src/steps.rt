@@ -1,5 +1,4 @@
 // A session's calls, through their C forms. A refusal keeps the position, which is written either way.
-use crate::lent::LISTS;
 use crate::lent::Lent;
 use crate::lent::words_of;
 use crate::print::answered;
@@ -10,19 +9,18 @@ use console_c::open::console_open;
 
 pub fn open(
     tables: &[u64],
-    lengths: [u64; LISTS],
     memory: &mut [u64],
     journal: &[u64],
     position: &mut [u64; 2],
     error: &mut [u64; 6],
 ) {
     let number = console_open(
-        words_of(tables, lengths, Lent::Regions),
-        words_of(tables, lengths, Lent::Externs),
-        words_of(tables, lengths, Lent::Parameters),
-        words_of(tables, lengths, Lent::Nodes),
-        words_of(tables, lengths, Lent::Arguments),
-        words_of(tables, lengths, Lent::Instructions),
+        words_of(tables, Lent::Regions),
+        words_of(tables, Lent::Externs),
+        words_of(tables, Lent::Parameters),
+        words_of(tables, Lent::Nodes),
+        words_of(tables, Lent::Arguments),
+        words_of(tables, Lent::Instructions),
         memory,
         journal,
         position,
@@ -33,43 +31,31 @@ pub fn open(
     written(error);
 }
 
-pub fn forward(
-    tables: &[u64],
-    lengths: [u64; LISTS],
-    memory: &mut [u64],
-    journal: &mut [u64],
-    position: &mut [u64; 2],
-) {
+pub fn forward(tables: &[u64], memory: &mut [u64], journal: &mut [u64], position: &mut [u64; 2]) {
     let number = console_forward(
-        words_of(tables, lengths, Lent::Regions),
-        words_of(tables, lengths, Lent::Externs),
-        words_of(tables, lengths, Lent::Parameters),
-        words_of(tables, lengths, Lent::Nodes),
-        words_of(tables, lengths, Lent::Arguments),
-        words_of(tables, lengths, Lent::Instructions),
+        words_of(tables, Lent::Regions),
+        words_of(tables, Lent::Externs),
+        words_of(tables, Lent::Parameters),
+        words_of(tables, Lent::Nodes),
+        words_of(tables, Lent::Arguments),
+        words_of(tables, Lent::Instructions),
         memory,
         journal,
         position,
-        words_of(tables, lengths, Lent::Given),
+        words_of(tables, Lent::Given),
     );
     answered(b"forward", number);
     written(position);
 }
 
-pub fn back(
-    tables: &[u64],
-    lengths: [u64; LISTS],
-    memory: &mut [u64],
-    journal: &[u64],
-    position: &mut [u64; 2],
-) {
+pub fn back(tables: &[u64], memory: &mut [u64], journal: &[u64], position: &mut [u64; 2]) {
     let number = console_back(
-        words_of(tables, lengths, Lent::Regions),
-        words_of(tables, lengths, Lent::Externs),
-        words_of(tables, lengths, Lent::Parameters),
-        words_of(tables, lengths, Lent::Nodes),
-        words_of(tables, lengths, Lent::Arguments),
-        words_of(tables, lengths, Lent::Instructions),
+        words_of(tables, Lent::Regions),
+        words_of(tables, Lent::Externs),
+        words_of(tables, Lent::Parameters),
+        words_of(tables, Lent::Nodes),
+        words_of(tables, Lent::Arguments),
+        words_of(tables, Lent::Instructions),
         memory,
         journal,
         position,
