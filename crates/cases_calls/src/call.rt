@@ -1,7 +1,8 @@
 // A call on what is lent, and the line that tells of it.
 use crate::kept;
+use crate::lent::JOURNAL;
 use crate::lent::JOURNAL_WORDS;
-use crate::lent::Lent;
+use crate::lent::MEMORY;
 use crate::lent::MEMORY_WORDS;
 use crate::lent::length_of;
 use crate::print::UNWRITTEN;
@@ -69,8 +70,8 @@ pub fn call(
     position: &mut [u64; 2],
     place: &mut [u64; 1],
 ) {
-    let words = least(length_of(tables, Lent::Memory), memory.len());
-    let entries = least(length_of(tables, Lent::Journal), journal.len());
+    let words = least(length_of(tables, MEMORY), memory.len());
+    let entries = least(length_of(tables, JOURNAL), journal.len());
     told(
         sign,
         tables,

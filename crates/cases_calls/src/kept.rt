@@ -1,5 +1,10 @@
 // The kept calls, through their C forms, and the loader's look at a chosen row, which no call of its own shows for a family other than CALL.
-use crate::lent::Lent;
+use crate::lent::ARGUMENTS;
+use crate::lent::EXTERNS;
+use crate::lent::INSTRUCTIONS;
+use crate::lent::NODES;
+use crate::lent::PARAMETERS;
+use crate::lent::REGIONS;
 use crate::lent::given;
 use crate::lent::words_of;
 use crate::print::answered;
@@ -13,12 +18,12 @@ use tables::look::Look;
 
 pub fn check(tables: &[u64], error: &mut [u64; 6]) {
     let number = console_check(
-        words_of(tables, Lent::Regions),
-        words_of(tables, Lent::Externs),
-        words_of(tables, Lent::Parameters),
-        words_of(tables, Lent::Nodes),
-        words_of(tables, Lent::Arguments),
-        words_of(tables, Lent::Instructions),
+        words_of(tables, REGIONS),
+        words_of(tables, EXTERNS),
+        words_of(tables, PARAMETERS),
+        words_of(tables, NODES),
+        words_of(tables, ARGUMENTS),
+        words_of(tables, INSTRUCTIONS),
         error,
     );
     answered(b"check", number);
@@ -27,12 +32,12 @@ pub fn check(tables: &[u64], error: &mut [u64; 6]) {
 
 pub fn resolve(tables: &[u64], rows: &mut [u64], count: &mut [u64; 1]) {
     let number = console_resolve(
-        words_of(tables, Lent::Regions),
-        words_of(tables, Lent::Externs),
-        words_of(tables, Lent::Parameters),
-        words_of(tables, Lent::Nodes),
-        words_of(tables, Lent::Arguments),
-        words_of(tables, Lent::Instructions),
+        words_of(tables, REGIONS),
+        words_of(tables, EXTERNS),
+        words_of(tables, PARAMETERS),
+        words_of(tables, NODES),
+        words_of(tables, ARGUMENTS),
+        words_of(tables, INSTRUCTIONS),
         given(tables, 0),
         rows,
         count,
@@ -43,12 +48,12 @@ pub fn resolve(tables: &[u64], rows: &mut [u64], count: &mut [u64; 1]) {
 
 pub fn access(tables: &[u64], reads: &mut [u64], writes: &mut [u64], counts: &mut [u64; 2]) {
     let number = console_access(
-        words_of(tables, Lent::Regions),
-        words_of(tables, Lent::Externs),
-        words_of(tables, Lent::Parameters),
-        words_of(tables, Lent::Nodes),
-        words_of(tables, Lent::Arguments),
-        words_of(tables, Lent::Instructions),
+        words_of(tables, REGIONS),
+        words_of(tables, EXTERNS),
+        words_of(tables, PARAMETERS),
+        words_of(tables, NODES),
+        words_of(tables, ARGUMENTS),
+        words_of(tables, INSTRUCTIONS),
         given(tables, 0),
         reads,
         writes,
@@ -61,7 +66,7 @@ pub fn access(tables: &[u64], reads: &mut [u64], writes: &mut [u64], counts: &mu
 // A step from a place.
 pub fn reference(tables: &[u64], place: &mut [u64; 1], found: &mut [u64; 3]) {
     let number = console_reference(
-        words_of(tables, Lent::Nodes),
+        words_of(tables, NODES),
         given(tables, 0),
         given(tables, 1),
         place,
@@ -81,12 +86,12 @@ fn number_of(look: Look) -> u64 {
 
 pub fn look(tables: &[u64]) {
     let seen = load_row(
-        words_of(tables, Lent::Regions),
-        words_of(tables, Lent::Externs),
-        words_of(tables, Lent::Parameters),
-        words_of(tables, Lent::Nodes),
-        words_of(tables, Lent::Arguments),
-        words_of(tables, Lent::Instructions),
+        words_of(tables, REGIONS),
+        words_of(tables, EXTERNS),
+        words_of(tables, PARAMETERS),
+        words_of(tables, NODES),
+        words_of(tables, ARGUMENTS),
+        words_of(tables, INSTRUCTIONS),
         given(tables, 0) as usize,
         given(tables, 1),
     );

@@ -1,5 +1,5 @@
 // What a script lends to the calls: tables, memory and journal, and their lengths.
-ghost use Prim.Native.Nat.{_≤_, _<_};
+ghost use Prim.Native.Nat.{_≤_};
 ghost use lib.ListN.{length};
 use script::fill::fill;
 use script::fill::put;
@@ -10,64 +10,53 @@ use script::token::token_at;
 pub const ROOM: usize = 6150;
 
 // The six tables lie one after the other, then the numbers that are given to a call, and then the lengths of all lists.
-const LENGTHS: usize = 7 * ROOM;
+const LENGTHS: usize = MEMORY * ROOM;
 
-pub const TABLE_WORDS: usize = LENGTHS + 9;
+pub const TABLE_WORDS: usize = LENGTHS + JOURNAL + 1;
 
 pub const MEMORY_WORDS: usize = 8200;
 
 pub const JOURNAL_WORDS: usize = 6150;
 
-pub enum Lent {
-    Regions,
-    Externs,
-    Parameters,
-    Nodes,
-    Arguments,
-    Instructions,
-    Given,
-    Memory,
-    Journal,
-}
+// The lists, by their places: a table's words and every list's length stand where its place says.
+pub const REGIONS: usize = 0;
 
-impl Lent {
-    // Its place among the lists.
-    pub fn number(self) -> usize
-        ensures { λ r. ⌜ r < 9 ⌝ }
-    {
-        match self {
-            Lent::Regions => 0,
-            Lent::Externs => 1,
-            Lent::Parameters => 2,
-            Lent::Nodes => 3,
-            Lent::Arguments => 4,
-            Lent::Instructions => 5,
-            Lent::Given => 6,
-            Lent::Memory => 7,
-            Lent::Journal => 8,
-        }
-    }
-}
+pub const EXTERNS: usize = 1;
+
+pub const PARAMETERS: usize = 2;
+
+pub const NODES: usize = 3;
+
+pub const ARGUMENTS: usize = 4;
+
+pub const INSTRUCTIONS: usize = 5;
+
+pub const GIVEN: usize = 6;
+
+pub const MEMORY: usize = 7;
+
+pub const JOURNAL: usize = 8;
 
 // A table by its sign.
-fn table_of(sign: u8) -> Lent {
+fn table_of(sign: u8) -> usize {
     match sign {
-        b'R' => Lent::Regions,
-        b'E' => Lent::Externs,
-        b'P' => Lent::Parameters,
-        b'N' => Lent::Nodes,
-        b'A' => Lent::Arguments,
-        b'I' => Lent::Instructions,
-        _ => Lent::Given,
+        b'R' => REGIONS,
+        b'E' => EXTERNS,
+        b'P' => PARAMETERS,
+        b'N' => NODES,
+        b'A' => ARGUMENTS,
+        b'I' => INSTRUCTIONS,
+        _ => GIVEN,
     }
 }
 
-fn set_length(tables: &mut [u64], which: Lent, length: usize) {
-    put(tables, LENGTHS + which.number(), length as u64);
+// Where a list's length stands; a place past the last is the last.
+fn length_place(which: usize) -> usize {
+    LENGTHS + least(which, JOURNAL)
 }
 
-pub fn length_of(tables: &[u64], which: Lent) -> usize {
-    let at = LENGTHS + which.number();
+pub fn length_of(tables: &[u64], which: usize) -> usize {
+    let at = length_place(which);
     if at < tables.len() {
         tables[at] as usize
     } else {
@@ -76,15 +65,15 @@ pub fn length_of(tables: &[u64], which: Lent) -> usize {
 }
 
 // The words of a table, or the numbers that are given to a call.
-pub fn words_of(tables: &[u64], which: Lent) -> &[u64] {
-    let first = least(which.number() * ROOM, tables.len());
+pub fn words_of(tables: &[u64], which: usize) -> &[u64] {
+    let first = least(least(which, GIVEN) * ROOM, tables.len());
     let end = first + least(length_of(tables, which), tables.len() - first);
     &tables[first..end]
 }
 
 // A number that is given to a call.
 pub fn given(tables: &[u64], i: usize) -> u64 {
-    let numbers = words_of(tables, Lent::Given);
+    let numbers = words_of(tables, GIVEN);
     if i < numbers.len() { numbers[i] } else { 0 }
 }
 
@@ -113,7 +102,7 @@ fn mark(words: &mut [u64]) {
 // `n k w..`: a table of n words, the k given ones over and over. The place after it.
 pub fn set_table(sign: u8, text: &[u8], at: usize, tables: &mut [u64]) -> usize {
     let which = table_of(sign);
-    let first = least(which.number() * ROOM, tables.len());
+    let first = least(least(which, GIVEN) * ROOM, tables.len());
     let room = least(ROOM, tables.len() - first);
     let all = token_at(text, at);
     let given = token_at(text, all.next);
@@ -122,7 +111,7 @@ pub fn set_table(sign: u8, text: &[u8], at: usize, tables: &mut [u64]) -> usize 
     let words = &mut tables[first..first + room];
     let next = fill(text, given.next, words, count);
     repeat(words, count, end);
-    set_length(tables, which, end);
+    put(tables, length_place(which), end as u64);
     next
 }
 
@@ -131,7 +120,7 @@ pub fn set_lent(
     text: &[u8],
     at: usize,
     words: &mut [u64],
-    which: Lent,
+    which: usize,
     tables: &mut [u64],
 ) -> usize {
     let all = token_at(text, at);
@@ -139,6 +128,6 @@ pub fn set_lent(
     let end = least(all.number() as usize, words.len());
     let lent = &mut words[0..end];
     mark(lent);
-    set_length(tables, which, end);
+    put(tables, length_place(which), end as u64);
     fill(text, given.next, lent, given.number() as usize)
 }

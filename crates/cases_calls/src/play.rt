@@ -5,8 +5,9 @@
 // o: open. f: forward, given a reply. b: back. c: check. v: resolve, given a row, into memory. s: the access sets, given a row, into memory and journal.
 // w: a walk's next reference, given the first node and the count. l: the loader's look, given a row and its family.
 use crate::call::call;
+use crate::lent::JOURNAL;
 use crate::lent::JOURNAL_WORDS;
-use crate::lent::Lent;
+use crate::lent::MEMORY;
 use crate::lent::MEMORY_WORDS;
 use crate::lent::TABLE_WORDS;
 use crate::lent::set_lent;
@@ -45,8 +46,8 @@ fn command(
 ) -> usize {
     match sign {
         b'=' => heading(text, at),
-        b'M' => set_lent(text, at, memory, Lent::Memory, tables),
-        b'J' => set_lent(text, at, journal, Lent::Journal, tables),
+        b'M' => set_lent(text, at, memory, MEMORY, tables),
+        b'J' => set_lent(text, at, journal, JOURNAL, tables),
         b'A'..=b'R' => set_table(sign, text, at, tables),
         b't' => plant(text, at, tables),
         b'm' => plant(text, at, memory),

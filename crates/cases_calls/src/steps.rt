@@ -1,5 +1,11 @@
 // A session's calls, through their C forms. A refusal keeps the position, which is written either way.
-use crate::lent::Lent;
+use crate::lent::ARGUMENTS;
+use crate::lent::EXTERNS;
+use crate::lent::GIVEN;
+use crate::lent::INSTRUCTIONS;
+use crate::lent::NODES;
+use crate::lent::PARAMETERS;
+use crate::lent::REGIONS;
 use crate::lent::words_of;
 use crate::print::answered;
 use crate::print::written;
@@ -15,12 +21,12 @@ pub fn open(
     error: &mut [u64; 6],
 ) {
     let number = console_open(
-        words_of(tables, Lent::Regions),
-        words_of(tables, Lent::Externs),
-        words_of(tables, Lent::Parameters),
-        words_of(tables, Lent::Nodes),
-        words_of(tables, Lent::Arguments),
-        words_of(tables, Lent::Instructions),
+        words_of(tables, REGIONS),
+        words_of(tables, EXTERNS),
+        words_of(tables, PARAMETERS),
+        words_of(tables, NODES),
+        words_of(tables, ARGUMENTS),
+        words_of(tables, INSTRUCTIONS),
         memory,
         journal,
         position,
@@ -33,16 +39,16 @@ pub fn open(
 
 pub fn forward(tables: &[u64], memory: &mut [u64], journal: &mut [u64], position: &mut [u64; 2]) {
     let number = console_forward(
-        words_of(tables, Lent::Regions),
-        words_of(tables, Lent::Externs),
-        words_of(tables, Lent::Parameters),
-        words_of(tables, Lent::Nodes),
-        words_of(tables, Lent::Arguments),
-        words_of(tables, Lent::Instructions),
+        words_of(tables, REGIONS),
+        words_of(tables, EXTERNS),
+        words_of(tables, PARAMETERS),
+        words_of(tables, NODES),
+        words_of(tables, ARGUMENTS),
+        words_of(tables, INSTRUCTIONS),
         memory,
         journal,
         position,
-        words_of(tables, Lent::Given),
+        words_of(tables, GIVEN),
     );
     answered(b"forward", number);
     written(position);
@@ -50,12 +56,12 @@ pub fn forward(tables: &[u64], memory: &mut [u64], journal: &mut [u64], position
 
 pub fn back(tables: &[u64], memory: &mut [u64], journal: &[u64], position: &mut [u64; 2]) {
     let number = console_back(
-        words_of(tables, Lent::Regions),
-        words_of(tables, Lent::Externs),
-        words_of(tables, Lent::Parameters),
-        words_of(tables, Lent::Nodes),
-        words_of(tables, Lent::Arguments),
-        words_of(tables, Lent::Instructions),
+        words_of(tables, REGIONS),
+        words_of(tables, EXTERNS),
+        words_of(tables, PARAMETERS),
+        words_of(tables, NODES),
+        words_of(tables, ARGUMENTS),
+        words_of(tables, INSTRUCTIONS),
         memory,
         journal,
         position,
