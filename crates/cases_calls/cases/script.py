@@ -110,6 +110,10 @@ class Script:
         self.position = position
         return position
 
+    def went(self, shown):
+        self.passed = shown[0]
+        return shown
+
     def open(self):
         def play(memory, journal):
             return self.moved(session.open_session(self.tables, memory, journal))
@@ -150,11 +154,19 @@ class Script:
         self.walk_from(self.passed if place is None else place)
 
         def play(memory, journal):
-            shown = kept.reference(self.tables[NODE_TABLE], first, count, self.passed)
-            self.passed = shown[0]
-            return shown
+            return self.went(kept.reference(self.tables[NODE_TABLE], first, count, self.passed))
         self.give(first, count)
         return self.call('reference', 'w', play, (self.passed,))
+
+    def references(self, first, count, room, place=None):
+        """A walk's next references into memory of so many words, from a place, or from where the last ended."""
+        self.walk_from(self.passed if place is None else place)
+
+        def play(memory, journal):
+            return kept.references(self.tables[NODE_TABLE], first, count, self.passed, memory)
+        self.lend_lists(play, room, len(self.journal))
+        self.give(first, count)
+        return self.call('references', 'r', lambda memory, journal: self.went(play(memory, journal)), (self.passed,))
 
     def look(self, row, family):
         """The loader's, at a row that must be of the family."""

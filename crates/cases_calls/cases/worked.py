@@ -116,6 +116,15 @@ def walks(bench):
         for step, answer in enumerate(steps):
             script.reference(first, count, 0 if step == 0 else None)
             said(script, f'reference 0 | {answer} | |')
+    lists(script, 0, 6)
+
+
+def lists(script, first, count):
+    """As many as fit: none, one of two, both, both and the end; the place past the end is the end's."""
+    for words, place, answer in ((1, 3, '3 0 |'), (2, 0, '4 1 | 0:9 1:2'), (3, 4, '6 1 | 0:8 1:0'), (4, 0, '6 2 | 0:9 1:2 2:8 3:0'),
+                                 (4, 3, '6 2 | 0:9 1:2 2:8 3:0'), (6, 4, '6 1 | 0:8 1:0'), (2, 9, '6 0 |'), (0, 9, '9 0 |')):
+        script.references(first, count, words, place)
+        said(script, f'references 0 | {answer} |')
 
 
 def write(script):

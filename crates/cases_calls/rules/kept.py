@@ -5,6 +5,10 @@ from .outcome import Refused, TypeErrors, need
 from .tables import ADDRESS, CALL, NODE_TABLE, Node, decoded, load, node_allowed, one_tree, rows_of, table_sized
 
 
+# A reference's name and index.
+REFERENCE_WORDS = 2
+
+
 class ArgumentErrors(Refused):
     """8, with the count of error rows."""
 
@@ -72,3 +76,15 @@ def reference(nodes, first, count, place):
         if tree[at].tag == ADDRESS:
             return at + 1, 1, tree[at].left, tree[at].right
     return count, 0, 0, 0
+
+
+def references(nodes, first, count, place, rows):
+    """The nodes passed, and how many references from a place on are written, as many as fit. The end is met by a list that has room left."""
+    tree = tree_of(nodes, first, count)
+    room = len(rows) // REFERENCE_WORDS
+    handed = [at for at in range(place, count) if tree[at].tag == ADDRESS][:room]
+    flat = [word for at in handed for word in (tree[at].left, tree[at].right)]
+    rows[:len(flat)] = flat
+    if len(handed) < room:
+        return count, len(handed)
+    return handed[-1] + 1 if handed else place, len(handed)

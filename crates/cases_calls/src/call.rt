@@ -29,6 +29,7 @@ fn play(
         b'v' => kept::resolve(tables, memory, &mut [UNWRITTEN; 1]),
         b's' => kept::access(tables, memory, journal, &mut [UNWRITTEN; 2]),
         b'w' => kept::reference(tables, place, &mut [UNWRITTEN; 3]),
+        b'r' => kept::references(tables, memory, place, &mut [UNWRITTEN; 1]),
         b'l' => kept::look(tables),
         _ => text(b"no call"),
     }

@@ -12,6 +12,7 @@ use crate::print::written;
 use console_c::access::console_access;
 use console_c::check::console_check;
 use console_c::reference::console_reference;
+use console_c::references::console_references;
 use console_c::resolve::console_resolve;
 use loader::load::load_row;
 use tables::look::Look;
@@ -75,6 +76,26 @@ pub fn reference(tables: &[u64], place: &mut [u64; 1], found: &mut [u64; 3]) {
     answered(b"reference", number);
     written(place);
     written(found);
+}
+
+// As many references as there is room for, from a place.
+pub fn references(
+    tables: &[u64],
+    rows: &mut [u64],
+    place: &mut [u64; 1],
+    count: &mut [u64; 1],
+) {
+    let number = console_references(
+        words_of(tables, NODES),
+        given(tables, 0),
+        given(tables, 1),
+        place,
+        rows,
+        count,
+    );
+    answered(b"references", number);
+    written(place);
+    written(count);
 }
 
 fn number_of(look: Look) -> u64 {
