@@ -79,12 +79,7 @@ pub fn reference(tables: &[u64], place: &mut [u64; 1], found: &mut [u64; 3]) {
 }
 
 // As many references as there is room for, from a place.
-pub fn references(
-    tables: &[u64],
-    rows: &mut [u64],
-    place: &mut [u64; 1],
-    count: &mut [u64; 1],
-) {
+pub fn references(tables: &[u64], rows: &mut [u64], place: &mut [u64; 1], count: &mut [u64; 1]) {
     let number = console_references(
         words_of(tables, NODES),
         given(tables, 0),
