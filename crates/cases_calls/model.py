@@ -1,8 +1,8 @@
 #!/usr/bin/env python3
 """Writes the script that cases_calls plays, `stdin`, and what it must write, `stdout`, beside itself.
 
-The answers come from `rules/`, written from document 01, docs/DECISIONS.md and, for the kept calls, quil-rs's source,
-without a look at the proved definitions or at the code of their rules. Seen of the code: the types of the
+The answers come from `rules/`, written from document 01, docs/DECISIONS.md, the C header and, for the kept calls, quil-rs's
+source, without a look at the proved definitions or at the code of their rules. Seen of the code: the types of the
 answers, the position and the type error, the first lines of the looks that open, forward and back share, and cases with
 their answers. For `quil-rs.answers` they are quil-rs's, and the rules must give the same.
 The cases are in `cases/`. The same output at each run.
@@ -12,18 +12,22 @@ from pathlib import Path
 
 sys.dont_write_bytecode = True
 HERE = Path(__file__).resolve().parent
+# The bytes that the program reads.
+TEXT = 1048576
 sys.path.insert(0, str(HERE))
 
-from cases import accepted, backs, calls, lines, lists, loads, opens, orders, quil_rs, refused, resolutions, verdicts, walks, worked  # noqa: E402
+from cases import accepted, backs, calls, lines, lists, loads, opens, orders, quil_rs, references, refused, resolutions, verdicts, walks, worked  # noqa: E402
 from cases.script import Script  # noqa: E402
 
 
 def main():
     script = Script()
     script.heading('a call and its number | what it answers | memory words changed | journal words changed')
-    for group in (lines, worked, accepted, refused, calls, orders, opens, backs, lists, loads, verdicts, resolutions, walks, quil_rs):
+    for group in (lines, worked, accepted, refused, calls, orders, opens, backs, lists, loads, verdicts, resolutions, walks, references, quil_rs):
         group.write(script)
-    (HERE / 'stdin').write_text('\n'.join(script.lines) + '\n')
+    played = '\n'.join(script.lines) + '\n'
+    assert len(played) <= TEXT, 'the program reads no more than this'
+    (HERE / 'stdin').write_text(played)
     (HERE / 'stdout').write_text('\n'.join(script.answers) + '\n')
 
 

@@ -15,7 +15,8 @@ def leaves(bench, row, cells, cell, word, entries_used=2):
 
 def type_error(bench, row, kind, spot=1):
     opened(bench, 5, row, **program(row))
-    assert bench.script.answers[-1].startswith(f'open 5 | {kind} 0 {spot} '), row
+    done, used = bench.script.position
+    assert bench.script.answers[-1].startswith(f'open 5 | {done} {used} {kind} 0 {spot} '), row
 
 
 def checked(bench):

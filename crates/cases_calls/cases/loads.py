@@ -58,14 +58,23 @@ def words(script):
                 script.check()
 
 
+# With the look's answer where a row is chosen that is there and of the family, and where it is not.
+CHOSEN = (('good', [0, 0, 2], 0, 2), ('a name twice', [0, 0, 2, 0, 3, 2], 3, 2), ('a kind 4', [0, 0, 2, 0, 4, 2], 2, 2),
+          ('half a row', [0, 0, 2, 0, 4], 1, 1))
+
+
 def chosen_rows(script):
-    """Row 0 is a frame, row 1 a CALL; the regions are good in the first line alone."""
-    for what, regions in (('good', [0, 0, 2]), ('a name twice', [0, 0, 2, 0, 3, 2]), ('a kind 4', [0, 0, 2, 0, 4, 2]), ('half a row', [0, 0, 2, 0, 4])):
+    """Row 0 is a frame, row 1 a CALL. The calls that take a row take a CALL; the look takes a family too."""
+    for what, regions, fit, unfit in CHOSEN:
         script.heading(f'chosen row 0 to 11 and 2^64 - 1, regions: {what}')
         lend(script, FRAME_AND_CALL, regions, nodes=NODES, arguments=ARGUMENTS)
         for row in VALUES:
             script.resolve(row, 0)
             script.access(row, 0, 0)
+        for family in VALUES:
+            script.heading(f'chosen row 0 to 11 and 2^64 - 1 of family {family}, regions: {what}')
+            for row in VALUES:
+                assert script.look(row, family) == (fit if (row, family) in ((0, FRAME), (1, CALL)) else unfit)
 
 
 def node_ranges(script):
@@ -82,7 +91,7 @@ def node_ranges(script):
 def ranges(script, what, first):
     script.heading(f'{what}, counts from node {first}')
     for count in VALUES:
-        script.walk(first, count, 0)
+        script.reference(first, count, 0)
 
 
 def named(width):

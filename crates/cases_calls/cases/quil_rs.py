@@ -57,13 +57,17 @@ def accessed(script, words):
 
 
 def walked(script, words):
+    """One by one, and then all in a list with room for one more."""
     first, count, steps = words.take(3)
+    references = []
     for step in range(steps):
         found, *reference = words.take(3)
-        script.walk(first, count, 0 if step == 0 else None)
-        expected = line('walk', 0, [*reference, script.position[0]] if found else [script.position[0]])
+        references += reference if found else []
+        script.reference(first, count, 0 if step == 0 else None)
+        expected = line('reference', 0, [script.passed, found, *reference])
         assert script.answers[-1] == expected, (script.answers[-1], expected)
-    return script.answers[-1]
+    script.references(first, count, len(references) + 2, 0)
+    return line('references', 0, [count, len(references) // 2], references)
 
 
 ASKED = {CHECK: checked, RESOLVE: resolved, ACCESS: accessed, WALK: walked}

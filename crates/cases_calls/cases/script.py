@@ -8,6 +8,8 @@ GIVEN = 6
 # How far apart the program keeps the tables.
 TABLE_ROOM = 6150
 MARK = 1000
+# What the program has in an out-array before a call, and does not show after it.
+UNWRITTEN = 0x5555555555555555
 
 
 def marked(words, length):
@@ -29,7 +31,7 @@ class Script:
         self.lines, self.answers = ['# Written by model.py, with what each call must answer.'], []
         self.tables = [[] for _ in TABLE_SIGNS]
         self.given = []
-        self.memory, self.journal, self.position = [], [], (0, 0)
+        self.memory, self.journal, self.position, self.passed = [], [], (0, 0), 0
 
     def heading(self, text):
         self.lines.append('= ' + text)
@@ -76,14 +78,20 @@ class Script:
             self.position = done, used
             self.lines.append(joined('p', done, used))
 
+    def walk_from(self, passed):
+        """The place that the next walk begins at, nodes passed."""
+        if passed != self.passed:
+            self.passed = passed
+            self.lines.append(joined('k', passed))
+
     def give(self, *numbers):
         """The numbers that the next call takes."""
         held, self.given = self.given, list(numbers)
         if held != self.given:
             self.shorter(joined('G', len(numbers), len(numbers), *numbers), held, self.given, lambda: planted('t', held, self.given, GIVEN * TABLE_ROOM))
 
-    def call(self, name, command, play, refused_at=lambda: ()):
-        """Plays the call on copies of memory and journal, and tells what changed."""
+    def call(self, name, command, play, kept=()):
+        """Plays the call on copies of memory and journal, and tells what changed; a refusal shows what is kept, then its error."""
         self.lines.append(command)
         memory, journal = list(self.memory), list(self.journal)
         number = 0
@@ -91,7 +99,8 @@ class Script:
             shown = play(memory, journal)
         except Refused as refusal:
             number = refusal.number
-            shown = getattr(refusal, 'error', refused_at())
+            shown = (*kept, *getattr(refusal, 'error', ()))
+        assert UNWRITTEN not in shown
         self.answers.append(' '.join([name, str(number), '|', *map(str, shown), '|', *changes(self.memory, memory), '|',
                                       *changes(self.journal, journal)]))
         self.memory, self.journal = memory, journal
@@ -101,19 +110,25 @@ class Script:
         self.position = position
         return position
 
+    def went(self, shown):
+        self.passed = shown[0]
+        return shown
+
     def open(self):
-        return self.call('open', 'o', lambda memory, journal: self.moved(session.open_session(self.tables, memory, journal)))
+        def play(memory, journal):
+            return self.moved(session.open_session(self.tables, memory, journal))
+        return self.call('open', 'o', play, self.position)
 
     def forward(self, reply=()):
         def play(memory, journal):
             return self.moved(session.forward(self.tables, memory, journal, self.position, list(reply)))
         self.give(*reply)
-        return self.call('forward', 'f', play, lambda: self.position)
+        return self.call('forward', 'f', play, self.position)
 
     def back(self):
         def play(memory, journal):
             return self.moved(session.back(self.tables, memory, journal, self.position))
-        return self.call('back', 'b', play, lambda: self.position)
+        return self.call('back', 'b', play, self.position)
 
     def check(self):
         return self.call('check', 'c', lambda memory, journal: kept.check(self.tables))
@@ -134,17 +149,29 @@ class Script:
         self.give(row)
         return self.call('access', 's', play)
 
-    def walk(self, first, count, place=None):
-        """From a place, or from where the last step ended; the place is the position's first number."""
-        if place is not None:
-            self.place(place, self.position[1])
+    def reference(self, first, count, place=None):
+        """A walk's next reference from a place, or from where the last one ended."""
+        self.walk_from(self.passed if place is None else place)
 
         def play(memory, journal):
-            shown = kept.walk(self.tables[NODE_TABLE], first, count, self.position[0])
-            self.position = shown[-1], self.position[1]
-            return shown
+            return self.went(kept.reference(self.tables[NODE_TABLE], first, count, self.passed))
         self.give(first, count)
-        return self.call('walk', 'w', play)
+        return self.call('reference', 'w', play, (self.passed,))
+
+    def references(self, first, count, room, place=None):
+        """A walk's next references into memory of so many words, from a place, or from where the last ended."""
+        self.walk_from(self.passed if place is None else place)
+
+        def play(memory, journal):
+            return kept.references(self.tables[NODE_TABLE], first, count, self.passed, memory)
+        self.lend_lists(play, room, len(self.journal))
+        self.give(first, count)
+        return self.call('references', 'r', lambda memory, journal: self.went(play(memory, journal)), (self.passed,))
+
+    def look(self, row, family):
+        """The loader's, at a row that must be of the family."""
+        self.give(row, family)
+        return self.call('look', 'l', lambda memory, journal: kept.look(self.tables, row, family))
 
     def lend_lists(self, play, first, second):
         """Words that all change where the call writes: marks, or else zeros less one, two and so on."""

@@ -16,7 +16,7 @@ def walked(script, what, first, count, number=0):
     """Steps from the first place."""
     script.heading(f'{what}, {count} from {first}')
     for step in range(STEPS):
-        assert script.walk(first, count, 0 if step == 0 else None) == number, what
+        assert script.reference(first, count, 0 if step == 0 else None) == number, what
 
 
 def trees(script):
@@ -32,7 +32,7 @@ def places(script):
     for first, count in ((1, 7), (8, 3), (18, 1)):
         script.heading(f'nodes, {count} from {first}, from the places 0 to 8 and {MOST}')
         for place in (*range(9), MOST):
-            script.walk(first, count, place)
+            script.reference(first, count, place)
 
 
 def tables(script):

@@ -109,13 +109,22 @@ def walks(bench):
     """Repeats are kept, an end is for good, left before right."""
     script = bench.script
     for what, nodes, first, count, steps in (
-            ('pi; 7[1] + -7[1]', [4, 0, 0, 2, 0, 0, 0, 7, 1, 5, 0, 0, 0, 7, 1], 1, 4, ('7 1 2', '7 1 4', '4', '4')),
-            ('(f(9[2]) + %3) + 8[0]', [2, 0, 0, 2, 0, 0, 1, 0, 0, 0, 9, 2, 6, 3, 0, 0, 8, 0], 0, 6, ('9 2 4', '8 0 6', '6'))):
+            ('pi; 7[1] + -7[1]', [4, 0, 0, 2, 0, 0, 0, 7, 1, 5, 0, 0, 0, 7, 1], 1, 4, ('2 1 7 1', '4 1 7 1', '4 0 0 0', '4 0 0 0')),
+            ('(f(9[2]) + %3) + 8[0]', [2, 0, 0, 2, 0, 0, 1, 0, 0, 0, 9, 2, 6, 3, 0, 0, 8, 0], 0, 6, ('4 1 9 2', '6 1 8 0', '6 0 0 0'))):
         script.heading(what)
         script.table(NODE_TABLE, nodes)
         for step, answer in enumerate(steps):
-            script.walk(first, count, 0 if step == 0 else None)
-            said(script, f'walk 0 | {answer} | |')
+            script.reference(first, count, 0 if step == 0 else None)
+            said(script, f'reference 0 | {answer} | |')
+    lists(script, 0, 6)
+
+
+def lists(script, first, count):
+    """As many as fit: none, one of two, both, both and the end; the place past the end is the end's."""
+    for words, place, answer in ((1, 3, '3 0 |'), (2, 0, '4 1 | 0:9 1:2'), (3, 4, '6 1 | 0:8 1:0'), (4, 0, '6 2 | 0:9 1:2 2:8 3:0'),
+                                 (4, 3, '6 2 | 0:9 1:2 2:8 3:0'), (6, 4, '6 1 | 0:8 1:0'), (2, 9, '6 0 |'), (0, 9, '9 0 |')):
+        script.references(first, count, words, place)
+        said(script, f'references 0 | {answer} |')
 
 
 def write(script):

@@ -1,8 +1,12 @@
-"""The calls that take tables alone: check, resolve, access and the walk."""
+"""The calls that take tables alone: check, resolve, access and the walk; and the loader's look at a chosen row."""
 from .calls import ERROR_WORDS, Failed, access_sets, error_rows, resolve_all
 from .check import type_error
 from .outcome import Refused, TypeErrors, need
 from .tables import ADDRESS, CALL, NODE_TABLE, Node, decoded, load, node_allowed, one_tree, rows_of, table_sized
+
+
+# A reference's name and index.
+REFERENCE_WORDS = 2
 
 
 class ArgumentErrors(Refused):
@@ -13,11 +17,16 @@ class ArgumentErrors(Refused):
         self.error = (count,)
 
 
-def loaded(words, row=None):
-    """The decoded tables, after the refusals 1, 2 and 3; a chosen row is a CALL."""
-    refusal = load(words, row, CALL)
+def loaded(words, row=None, family=CALL):
+    """The decoded tables, after the refusals 1, 2 and 3; a chosen row is of the family."""
+    refusal = load(words, row, family)
     need(refusal == 0, refusal)
     return decoded(words)
+
+
+def look(words, row, family):
+    loaded(words, row, family)
+    return ()
 
 
 def check(words):
@@ -52,13 +61,30 @@ def access(words, row, reads, writes):
     return len(read), len(written)
 
 
-def walk(nodes, first, count, place):
-    """The next reference from a place, with the nodes passed then; at the end these alone."""
+def tree_of(nodes, first, count) -> list[Node]:
+    """The nodes of the range, after the refusals 1 and 2."""
     need(table_sized(nodes, NODE_TABLE), 1)
     rows = rows_of(nodes, NODE_TABLE)
     need(all(map(node_allowed, rows)) and first + count <= len(rows) and one_tree(rows[first:first + count]), 2)
-    tree: list[Node] = rows[first:first + count]
+    return rows[first:first + count]
+
+
+def reference(nodes, first, count, place):
+    """The nodes passed, and 1 with the next reference from a place on, or zeros at the end."""
+    tree = tree_of(nodes, first, count)
     for at in range(place, count):
         if tree[at].tag == ADDRESS:
-            return tree[at].left, tree[at].right, at + 1
-    return count,
+            return at + 1, 1, tree[at].left, tree[at].right
+    return count, 0, 0, 0
+
+
+def references(nodes, first, count, place, rows):
+    """The nodes passed, and how many references from a place on are written, as many as fit. The end is met by a list that has room left."""
+    tree = tree_of(nodes, first, count)
+    room = len(rows) // REFERENCE_WORDS
+    handed = [at for at in range(place, count) if tree[at].tag == ADDRESS][:room]
+    flat = [word for at in handed for word in (tree[at].left, tree[at].right)]
+    rows[:len(flat)] = flat
+    if len(handed) < room:
+        return count, len(handed)
+    return handed[-1] + 1 if handed else place, len(handed)

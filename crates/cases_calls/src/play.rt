@@ -1,13 +1,12 @@
 // The commands of a script, a sign each with numbers after it.
 // R, E, P, N, A, I n k w..: a table of n words, the k given ones over and over; G: the numbers that are given to a call.
 // M, J n k w..: memory or journal of n words, the k given ones and then marks. t, m, j i w: a word of the tables, which lie 6,150 words apart, of memory or of journal.
-// p done used: the position. = text: a heading up to the line feed.
+// p done used: the position. k place: the place of a walk. = text: a heading up to the line feed.
 // o: open. f: forward, given a reply. b: back. c: check. v: resolve, given a row, into memory. s: the access sets, given a row, into memory and journal.
-// w: a walk's step, given the first node and the count, from the place that `done` is.
+// w: a walk's next reference, given the first node and the count; r: the next ones, into memory. l: the loader's look, given a row and its family.
 use crate::call::call;
 use crate::lent::JOURNAL;
 use crate::lent::JOURNAL_WORDS;
-use crate::lent::LENT;
 use crate::lent::MEMORY;
 use crate::lent::MEMORY_WORDS;
 use crate::lent::TABLE_WORDS;
@@ -42,20 +41,21 @@ fn command(
     tables: &mut [u64; TABLE_WORDS],
     memory: &mut [u64; MEMORY_WORDS],
     journal: &mut [u64; JOURNAL_WORDS],
-    lengths: &mut [u64; LENT],
     position: &mut [u64; 2],
+    place: &mut [u64; 1],
 ) -> usize {
     match sign {
         b'=' => heading(text, at),
-        b'M' => set_lent(text, at, memory, MEMORY, lengths),
-        b'J' => set_lent(text, at, journal, JOURNAL, lengths),
-        b'A'..=b'R' => set_table(sign, text, at, tables, lengths),
+        b'M' => set_lent(text, at, memory, MEMORY, tables),
+        b'J' => set_lent(text, at, journal, JOURNAL, tables),
+        b'A'..=b'R' => set_table(sign, text, at, tables),
         b't' => plant(text, at, tables),
         b'm' => plant(text, at, memory),
         b'j' => plant(text, at, journal),
         b'p' => fill(text, at, position, 2),
+        b'k' => fill(text, at, place, 1),
         _ => {
-            call(sign, tables, memory, journal, *lengths, position);
+            call(sign, tables, memory, journal, position, place);
             at
         }
     }
@@ -66,8 +66,8 @@ pub fn play(text: &[u8]) {
     let mut tables = [0; TABLE_WORDS];
     let mut memory = [0; MEMORY_WORDS];
     let mut journal = [0; JOURNAL_WORDS];
-    let mut lengths = [0; LENT];
     let mut position = [0; 2];
+    let mut place = [0; 1];
     let mut at = 0;
     let mut turns = text.len();
     while turns > 0 {
@@ -82,8 +82,8 @@ pub fn play(text: &[u8]) {
             &mut tables,
             &mut memory,
             &mut journal,
-            &mut lengths,
             &mut position,
+            &mut place,
         );
         turns -= 1;
     }

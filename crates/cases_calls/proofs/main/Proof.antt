@@ -7,7 +7,7 @@ use Rattle.cases_calls.proofs.main.Statement.{statement}
 use Rattle.cases_calls.proofs.main.Tie as tie
 
 slice-aggregate-read-full : tie.Need-slice-aggregate-read-full
-slice-aggregate-read-full c = sym (length-replicate {A = ℕ} 524288 0)
+slice-aggregate-read-full c = sym (length-replicate {A = ℕ} 1048576 0)
 
 read-full-requires : tie.Need-read-full-requires
 read-full-requires c κs = search needs

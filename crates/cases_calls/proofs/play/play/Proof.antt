@@ -4,10 +4,10 @@ use Rattle.cases_calls.proofs.play.play.Statement.{statement}
 use Rattle.cases_calls.proofs.play.play.Tie as tie
 
 abbrev Inv-loop : tie.InvT-loop
-Inv-loop text tables₀ memory₀ journal₀ lengths₀ position₀ at₀ turns₀ tables memory journal lengths position at turns = Unit {0}
+Inv-loop text tables₀ memory₀ journal₀ position₀ place₀ at₀ turns₀ tables memory journal position place at turns = Unit {0}
 
 abbrev μ-loop : tie.MeasureT-loop
-μ-loop text tables₀ memory₀ journal₀ lengths₀ position₀ at₀ turns₀ tables memory journal lengths position at turns = turns
+μ-loop text tables₀ memory₀ journal₀ position₀ place₀ at₀ turns₀ tables memory journal position place at turns = turns
 
 loop-holds : tie.Need-loop-holds Inv-loop μ-loop
 loop-holds c = search needs

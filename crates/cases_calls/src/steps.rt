@@ -1,0 +1,71 @@
+// A session's calls, through their C forms. A refusal keeps the position, which is written either way.
+use crate::lent::ARGUMENTS;
+use crate::lent::EXTERNS;
+use crate::lent::GIVEN;
+use crate::lent::INSTRUCTIONS;
+use crate::lent::NODES;
+use crate::lent::PARAMETERS;
+use crate::lent::REGIONS;
+use crate::lent::words_of;
+use crate::print::answered;
+use crate::print::written;
+use console_c::back::console_back;
+use console_c::forward::console_forward;
+use console_c::open::console_open;
+
+pub fn open(
+    tables: &[u64],
+    memory: &mut [u64],
+    journal: &[u64],
+    position: &mut [u64; 2],
+    error: &mut [u64; 6],
+) {
+    let number = console_open(
+        words_of(tables, REGIONS),
+        words_of(tables, EXTERNS),
+        words_of(tables, PARAMETERS),
+        words_of(tables, NODES),
+        words_of(tables, ARGUMENTS),
+        words_of(tables, INSTRUCTIONS),
+        memory,
+        journal,
+        position,
+        error,
+    );
+    answered(b"open", number);
+    written(position);
+    written(error);
+}
+
+pub fn forward(tables: &[u64], memory: &mut [u64], journal: &mut [u64], position: &mut [u64; 2]) {
+    let number = console_forward(
+        words_of(tables, REGIONS),
+        words_of(tables, EXTERNS),
+        words_of(tables, PARAMETERS),
+        words_of(tables, NODES),
+        words_of(tables, ARGUMENTS),
+        words_of(tables, INSTRUCTIONS),
+        memory,
+        journal,
+        position,
+        words_of(tables, GIVEN),
+    );
+    answered(b"forward", number);
+    written(position);
+}
+
+pub fn back(tables: &[u64], memory: &mut [u64], journal: &[u64], position: &mut [u64; 2]) {
+    let number = console_back(
+        words_of(tables, REGIONS),
+        words_of(tables, EXTERNS),
+        words_of(tables, PARAMETERS),
+        words_of(tables, NODES),
+        words_of(tables, ARGUMENTS),
+        words_of(tables, INSTRUCTIONS),
+        memory,
+        journal,
+        position,
+    );
+    answered(b"back", number);
+    written(position);
+}
