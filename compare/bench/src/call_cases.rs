@@ -4,6 +4,7 @@ use crate::{
     inputs::{self, Names},
 };
 use library::lent;
+use mugwortlatch::Walk;
 use oracle::{
     expression::{plain_leaf, tree},
     program::{call, program, Naming},
@@ -81,19 +82,22 @@ fn access(input: String, tables: Tables, row: u64) -> Case {
     }
 }
 
-/// All references of a deep tree. No goal is set for it.
+/// All references of a deep tree; the indices are added up, so that each is looked at.
 fn walk(count: u64) -> Case {
     let mut tables = inputs::regions(8, 8);
     inputs::frames(&mut tables, 1, count);
     let nodes = tables.nodes;
     let expression = tree(&nodes, |_, node| plain_leaf(node)).expect("one tree");
-    let ours = move || mugwortlatch::memory_references(hidden(&nodes), 0, count).map_or(0, Iterator::count);
-    let theirs = move || hidden(&expression).memory_references().count();
+    let ours = move || {
+        let (nodes, mut walk) = (hidden(&nodes), Walk::new());
+        walk.memory_references(nodes, 0, count).map_or(0, |all| all.map(|reference| reference.index + 1).sum::<u64>())
+    };
+    let theirs = move || hidden(&expression).memory_references().map(|reference| reference.index + 1).sum::<u64>();
     assert_eq!(ours(), theirs());
     Case {
         call: "references",
         input: format!("all of a deep tree of {count} nodes"),
-        goal: None,
+        goal: Some(1.0),
         against: Against::QuilRs,
         ours: Box::new(move || {
             hidden(ours());
