@@ -213,7 +213,7 @@ enum {
     CONSOLE_CODE_ABSENT = 8,
     CONSOLE_CODE_REAL_OR_INTEGRAL = 9, /* required: INTEGER or REAL */
     CONSOLE_CODE_INTEGRAL = 10,        /* required: no REAL; of an offset: INTEGER */
-    CONSOLE_CODE_BIT = 11              /* required: BIT */
+    CONSOLE_CODE_BIT_ONLY = 11         /* required: BIT */
 };
 
 /* ---- Answers */
