@@ -1,20 +1,31 @@
 # All that the gate does not run, in some minutes; sourced by run, in its folder, after build.sh. Each step says what it shows.
 
 c=../crates/console_c
-warnings="-Wall -Wextra -Wpedantic -Wconversion -Werror"
+warnings="-Wall -Wextra -Wpedantic -Wconversion -Wsign-conversion -Wshadow -Wundef -Werror"
+as_c="-std=c11 $warnings -Wstrict-prototypes -Wmissing-prototypes"
+as_cpp="-std=c++17 $warnings -Wold-style-cast -Wzero-as-null-pointer-constant"
 
 header() {
-    cc -std=c11 $warnings -fsyntax-only -x c "$c/console.h" && c++ -std=c++17 $warnings -fsyntax-only -x c++ "$c/console.h"
+    cc $as_c -fsyntax-only -x c "$c/console.h" && c++ $as_cpp -fsyntax-only -x c++ "$c/console.h"
 }
 
-c_example() {
-    cc $warnings -I"$c" -o target/example "$c/example.c" ../target/staticlib/libconsole_c.a &&
-        target/example | cmp - "$c/example.expected"
+# c_program NAME: without a warning as C11 and as C++17; built by the line at its head, it writes NAME.expected.
+c_program() {
+    line=$(sed -n 's|^ \*   \(cc .*\) \*/$|\1|p' "$c/$1.c")
+    cc $as_c -fsyntax-only "$c/$1.c" && c++ -std=c++17 $warnings -fsyntax-only -x c++ "$c/$1.c" &&
+        [ -n "$line" ] && (cd .. && eval "$line") | cmp - "$c/$1.expected"
 }
+
+c_example() { [ "$(wc -l <"$c/example.c")" -le 60 ] && c_program example; }
+
+c_calls() { c_program calls; }
 
 rust_tests() { (cd ../bindings && cargo test -q --offline && cargo test -q --offline --no-default-features); }
 
-rust_example() { (cd ../bindings && cargo run -q --offline --example step | cmp - examples/step.expected); }
+rust_example() {
+    (cd ../bindings && [ "$(wc -l <examples/step.rs)" -le 60 ] &&
+        cargo run -q --offline --example step | cmp - examples/step.expected)
+}
 
 comparison() { build -p compare && target/release/compare --random 20000 --limits 50; }
 
@@ -33,9 +44,10 @@ step() {
 quick() {
     missed=0
     step "console.h as C11 and as C++17, all warnings on" header
-    step "the C example writes its example.expected" c_example
+    step "the C session of at most 60 lines, built as its page says, writes its example.expected" c_example
+    step "the C program of the other calls writes its calls.expected" c_calls
     step "the tests of bindings/, with std and without" rust_tests
-    step "the Rust example writes its step.expected" rust_example
+    step "the Rust session of at most 60 lines, built as its page says, writes its step.expected" rust_example
     step "a short comparison with quil-rs differs nowhere" comparison
     step "20,000 call lists differ nowhere and reach every refusal" call_lists
     exit $missed

@@ -70,4 +70,15 @@ extern "C" {
         place: *mut u64,
         found: *mut u64,
     ) -> u64;
+
+    pub fn console_references(
+        nodes: *const u64,
+        nodes_length: usize,
+        first: u64,
+        node_count: u64,
+        place: *mut u64,
+        rows: *mut u64,
+        rows_length: usize,
+        count: *mut u64,
+    ) -> u64;
 }

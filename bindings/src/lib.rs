@@ -3,7 +3,7 @@
 //!
 //! - Rows of the tables: [`Region`], [`Extern`], [`Parameter`], [`Node`], [`UnresolvedCallArgument`], [`Instruction`],
 //!   each with `row()`, its words; [`Tables`] lends them, `Program` (feature `std`) collects them.
-//! - Calls on the tables: [`check`], [`resolve`], [`access`], [`memory_references`].
+//! - Calls on the tables: [`check`], [`resolve`], [`access`]; on an expression: [`Walk::memory_references`].
 //! - A session: [`Session::open`], [`forward`](Session::forward), [`back`](Session::back), [`reset`](Session::reset).
 //! - [`raw`] is the C interface as it is.
 //!
@@ -63,4 +63,4 @@ pub use rows::{Extern, Node, Parameter, Region, Shape};
 pub use session::{Cell, Position, Reply, Session};
 pub use tables::Tables;
 pub use type_error::{Code, Spot, TypeError, TypeErrorKind};
-pub use walk::{memory_references, MemoryReference, MemoryReferences};
+pub use walk::{MemoryReference, MemoryReferences, Walk};

@@ -4,7 +4,8 @@
 //!
 //! All `unsafe` of the crate stands here. A call is total on the words it is lent: what it asks for is live, aligned
 //! buffers that do not overlap and are not null, which slices are.
-use crate::{foreign, Tables};
+use crate::{foreign, sizes, Tables};
+use core::mem::MaybeUninit;
 
 /// Calls a function of console.h with the six tables before its other arguments.
 macro_rules! with_tables {
@@ -68,6 +69,23 @@ pub fn reference(nodes: &[u64], first: u64, node_count: u64, place: &mut [u64; 1
     unsafe { foreign::console_reference(nodes.as_ptr(), nodes.len(), first, node_count, place, found) }
 }
 
+/// The next references of an expression, as many as `rows` has room for. It writes on 0 the new `place`, `count`, and
+/// that many rows of name and index.
+#[inline]
+pub fn references(
+    nodes: &[u64],
+    first: u64,
+    node_count: u64,
+    place: &mut [u64; 1],
+    rows: &mut [u64],
+    count: &mut [u64; 1],
+) -> u64 {
+    let (place, count) = (place.as_mut_ptr(), count.as_mut_ptr());
+    let (words, length) = (rows.as_mut_ptr(), rows.len());
+    // Safety: slices are live, aligned and of these lengths; what is written is borrowed alone.
+    unsafe { foreign::console_references(nodes.as_ptr(), nodes.len(), first, node_count, place, words, length, count) }
+}
+
 /// The cells zeroed, each with its declared kind. It writes `memory` and `position` on 0, `error` on 5.
 #[inline]
 pub fn open(
@@ -123,4 +141,38 @@ pub fn back(tables: &Tables, memory: &mut [u64], journal: &[u64], position: &mut
         journal.len(),
         position.as_mut_ptr()
     )
+}
+
+/// Room for the references of any expression, which is not cleared before the library writes there.
+pub(crate) struct ReferenceRows([MaybeUninit<ReferenceRow>; sizes::REFERENCE_LIMIT]);
+
+/// Name, index.
+pub(crate) type ReferenceRow = [u64; sizes::REFERENCE_WIDTH];
+
+impl ReferenceRows {
+    pub const fn new() -> ReferenceRows {
+        ReferenceRows([MaybeUninit::uninit(); sizes::REFERENCE_LIMIT])
+    }
+
+    /// All references of an expression, or the refusal's number.
+    #[inline]
+    pub fn filled(&mut self, nodes: &[u64], first: u64, node_count: u64) -> Result<&[ReferenceRow], u64> {
+        let (mut place, mut count) = ([0], [0]);
+        let (words, length) = (self.0.as_mut_ptr().cast(), self.0.len() * sizes::REFERENCE_WIDTH);
+        // Safety: the room is live, aligned and of this length, borrowed alone, and no word of it is read.
+        let number = unsafe {
+            let (place, count) = (place.as_mut_ptr(), count.as_mut_ptr());
+            foreign::console_references(nodes.as_ptr(), nodes.len(), first, node_count, place, words, length, count)
+        };
+        match number {
+            0 => Ok(self.written(count[0])),
+            number => Err(number),
+        }
+    }
+
+    fn written(&self, count: u64) -> &[ReferenceRow] {
+        let rows = usize::try_from(count).ok().and_then(|count| self.0.get(..count)).unwrap_or(&[]);
+        // Safety: on 0 the library has written as many rows as it counts.
+        unsafe { core::slice::from_raw_parts(rows.as_ptr().cast(), rows.len()) }
+    }
 }

@@ -22,6 +22,8 @@ pub const REPLY_WIDTH: usize = 4;
 pub const RESOLVED_WIDTH: usize = 5;
 /// Words in an argument error's row.
 pub const ERROR_WIDTH: usize = 7;
+/// Words in a reference's row.
+pub const REFERENCE_WIDTH: usize = 2;
 
 /// Most regions.
 pub const REGION_LIMIT: usize = 64;
@@ -41,6 +43,8 @@ pub const CELL_LIMIT: usize = 4_096;
 pub const ENTRY_LIMIT: usize = 2_048;
 /// Most rows of a reply.
 pub const REPLY_LIMIT: usize = 64;
+/// Most references of an expression: a tree's leaves are at most one more than its other nodes.
+pub const REFERENCE_LIMIT: usize = NODE_LIMIT / 2;
 
 /// A memory that is long enough for every program.
 pub const MEMORY_WORDS: usize = CELL_LIMIT * CELL_WIDTH;

@@ -1,5 +1,5 @@
 use crate::{raw, Refusal};
-use core::{fmt, iter::FusedIterator};
+use core::{fmt, iter::FusedIterator, slice};
 
 /// A cell, by its region's name and its index there.
 #[derive(Clone, Copy, Debug, PartialEq, Eq)]
@@ -10,47 +10,74 @@ pub struct MemoryReference {
     pub index: u64,
 }
 
-/// The references of one expression, left to right, repeats kept. The nodes stay borrowed, so that the looks of the
-/// first call hold for the rest.
-#[derive(Clone, Debug)]
-pub struct MemoryReferences<'a> {
-    nodes: &'a [u64],
-    first: u64,
-    count: u64,
-    place: [u64; 1],
-}
+/// A walk over expressions, with room of its own for the references of any one: 16 KB, which is not cleared. Each
+/// expression is one call of the library.
+///
+/// ```
+/// use mugwortlatch::{flattened, MemoryReference, Node, Refusal, Walk};
+///
+/// // -n[1] * n[2]
+/// let n = |index| MemoryReference { name: 1, index };
+/// let nodes = [Node::Infix, Node::Prefix, Node::Address(n(1)), Node::Address(n(2))].map(Node::row);
+/// let mut walk = Walk::new();
+/// assert!(walk.memory_references(flattened(&nodes), 0, 4)?.eq([n(1), n(2)]));
+/// # Ok::<(), Refusal>(())
+/// ```
+pub struct Walk(raw::ReferenceRows);
 
-/// The references of the tree of `count` nodes from row `first` on. Refusals in order: 1, 2.
-pub fn memory_references(nodes: &[u64], first: u64, count: u64) -> Result<MemoryReferences<'_>, Refusal> {
-    let walk = MemoryReferences { nodes, first, count, place: [0] };
-    // The library looks at the nodes at each call; a walk that starts is not refused later.
-    match walk.clone().found() {
-        Ok(_) => Ok(walk),
-        Err(refusal) => Err(refusal),
+/// The references of one expression, left to right, repeats kept.
+#[derive(Clone, Debug)]
+pub struct MemoryReferences<'w>(slice::Iter<'w, raw::ReferenceRow>);
+
+impl Walk {
+    /// A walk that has been nowhere.
+    #[inline]
+    pub const fn new() -> Walk {
+        Walk(raw::ReferenceRows::new())
+    }
+
+    /// The references of the tree of `count` nodes from row `first` on. Refusals in order: 1, 2.
+    #[inline]
+    pub fn memory_references(
+        &mut self,
+        nodes: &[u64],
+        first: u64,
+        count: u64,
+    ) -> Result<MemoryReferences<'_>, Refusal> {
+        match self.0.filled(nodes, first, count) {
+            Ok(rows) => Ok(MemoryReferences(rows.iter())),
+            Err(number) => Err(Refusal::of_number(number)),
+        }
     }
 }
 
-impl MemoryReferences<'_> {
-    /// 1, name, index, or 0, 0, 0 at the end.
-    fn found(&mut self) -> Result<[u64; 3], Refusal> {
-        let mut found = [0; 3];
-        match raw::reference(self.nodes, self.first, self.count, &mut self.place, &mut found) {
-            0 => Ok(found),
-            number => Err(Refusal::of_number(number)),
-        }
+impl Default for Walk {
+    fn default() -> Walk {
+        Walk::new()
+    }
+}
+
+impl fmt::Debug for Walk {
+    fn fmt(&self, f: &mut fmt::Formatter<'_>) -> fmt::Result {
+        f.write_str("Walk")
     }
 }
 
 impl Iterator for MemoryReferences<'_> {
     type Item = MemoryReference;
 
+    #[inline]
     fn next(&mut self) -> Option<MemoryReference> {
-        match self.found() {
-            Ok([1, name, index]) => Some(MemoryReference { name, index }),
-            _ => None,
-        }
+        self.0.next().map(|&[name, index]| MemoryReference { name, index })
+    }
+
+    #[inline]
+    fn size_hint(&self) -> (usize, Option<usize>) {
+        self.0.size_hint()
     }
 }
+
+impl ExactSizeIterator for MemoryReferences<'_> {}
 
 impl FusedIterator for MemoryReferences<'_> {}
 

@@ -1,11 +1,10 @@
-//! Resolve, access and the walk: every form of a resolved row, every argument error, every refusal of theirs.
+//! Resolve and access: every form of a resolved row, every argument error, every refusal of theirs.
 mod bench;
 
 use bench::*;
 use mugwortlatch::{
-    access, flattened, memory_references, resolve, AccessSets, CallArgumentError, CallArgumentResolutionError, Extern,
-    Instruction, Kind, MemoryReference, Node, Parameter, Refusal, ResolvedCallArgument, Shape, Tables, Unresolved,
-    UnresolvedCallArgument, Vector,
+    access, flattened, resolve, AccessSets, CallArgumentError, CallArgumentResolutionError, Extern, Instruction, Kind,
+    Parameter, Refusal, ResolvedCallArgument, Shape, Tables, Unresolved, UnresolvedCallArgument, Vector,
 };
 use UnresolvedCallArgument::{Identifier, Immediate, Reference};
 
@@ -123,20 +122,4 @@ fn access_sets() {
     assert_eq!(access(&tables(&arguments, &row), 0, &mut short, &mut writes), Err(Refusal::BufferSize));
     let absent = [call(Q, 0, 5)];
     assert_eq!(access(&tables(&arguments, &absent), 0, &mut reads, &mut writes), Err(Refusal::ExternNotFound));
-}
-
-#[test]
-fn walk() {
-    // n[1] + (-r[0] * n[1])
-    let address = |name, index| Node::Address(at(name, index));
-    let nodes = [Node::Infix, address(N, 1), Node::Infix, Node::Prefix, address(R, 0), address(N, 1)].map(Node::row);
-    let nodes = flattened(&nodes);
-    let mut walk = memory_references(nodes, 0, 6).unwrap();
-    let all: Vec<MemoryReference> = walk.by_ref().collect();
-    assert_eq!(all, [at(N, 1), at(R, 0), at(N, 1)]);
-    assert_eq!(walk.next(), None);
-    assert_eq!(memory_references(nodes, 3, 2).unwrap().count(), 1);
-    assert_eq!(memory_references(&nodes[1..], 0, 6).unwrap_err(), Refusal::TableShape);
-    assert_eq!(memory_references(nodes, 0, 5).unwrap_err(), Refusal::WordNotAllowed);
-    assert_eq!(memory_references(nodes, 0, 0).unwrap_err(), Refusal::WordNotAllowed);
 }

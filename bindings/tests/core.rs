@@ -1,4 +1,4 @@
-//! Names and numbers are the core's, whose sources have them as constants.
+//! Names and numbers are the core's, whose sources have them as constants, and those of console.h.
 use mugwortlatch::{
     sizes, ArithmeticOperator, BinaryOperator, Code, ComparisonOperator, FrameOperator, Kind, Refusal, UnaryOperator,
 };
@@ -10,26 +10,37 @@ macro_rules! source {
     };
 }
 
-/// These sizes stand in that source.
+const HEADER: &str = source!("console_c/console.h");
+
+/// These sizes stand in that source and in the header.
 macro_rules! sizes_in {
     ($path:literal: $($name:ident)*) => {
         $(
             let line = format!("pub const {}: usize = {};\n", stringify!($name), sizes::$name);
             assert!(source!($path).contains(&line), "{line}");
+            defined(stringify!($name), sizes::$name);
         )*
     };
 }
 
-/// Every word below `count` has a case, which that source names.
+/// Every word of the range has a case, which that source and, after that prefix, the header name.
 macro_rules! cases_in {
-    ($path:literal: $($type:ident below $count:literal),*) => {
-        $((0..$count).for_each(|word| stands(source!($path), &$type::of_word(word), word));)*
+    ($path:literal, $prefix:literal: $($type:ident in $words:expr),*) => {
+        $($words.for_each(|word| stands(source!($path), $prefix, &$type::of_word(word), word));)*
     };
 }
 
-fn stands(source: &str, case: &dyn Debug, word: u64) {
-    let line = format!("pub const {}: u64 = {word};\n", constant(&format!("{case:?}")));
+fn defined(name: &str, size: usize) {
+    let line = format!("#define CONSOLE_{name} {size}\n");
+    assert!(HEADER.contains(&line), "{line}");
+}
+
+fn stands(source: &str, prefix: &str, case: &dyn Debug, word: u64) {
+    let name = constant(&format!("{case:?}"));
+    let line = format!("pub const {name}: u64 = {word};\n");
     assert!(source.contains(&line), "{line}");
+    let entry = format!("CONSOLE_{prefix}_{name} = {word}");
+    assert!([",", " ", "\n"].iter().any(|end| HEADER.contains(&format!("{entry}{end}"))), "{entry}");
 }
 
 /// `AsHere` as `AS_HERE`.
@@ -55,14 +66,19 @@ fn sizes_of_rows() {
     sizes_in!("journal/src/entries.rt": ENTRY_WIDTH ENTRY_LIMIT);
     sizes_in!("call_reply/src/reply.rt": REPLY_WIDTH REPLY_LIMIT);
     sizes_in!("extern_call/src/rows.rt": RESOLVED_WIDTH ERROR_WIDTH);
+    sizes_in!("memory/src/batch.rt": REFERENCE_WIDTH);
+    defined("REFERENCE_LIMIT", sizes::REFERENCE_LIMIT);
 }
 
 #[test]
 fn words_of_cases() {
-    cases_in!("words/src/kind.rt": Kind below 4, Code below 6);
-    cases_in!("tables/src/operator.rt": ArithmeticOperator below 4, ComparisonOperator below 5, BinaryOperator below 6);
-    cases_in!("tables/src/operator.rt": UnaryOperator below 2, FrameOperator below 5);
-    (6..12).for_each(|word| stands(source!("type_check/src/code.rt"), &Code::of_word(word), word));
+    cases_in!("words/src/kind.rt", "KIND": Kind in 0..4);
+    cases_in!("words/src/kind.rt", "CODE": Code in 4..6);
+    cases_in!("type_check/src/code.rt", "CODE": Code in 6..12);
+    cases_in!("tables/src/operator.rt", "OPERATOR": ArithmeticOperator in 0..4, ComparisonOperator in 0..5);
+    cases_in!("tables/src/operator.rt", "OPERATOR": BinaryOperator in 0..6, UnaryOperator in 0..2);
+    cases_in!("tables/src/operator.rt", "OPERATOR": FrameOperator in 0..5);
+    (0..4).for_each(|word| assert_eq!(Kind::of_word(word).to_string(), Code::of_word(word).to_string()));
 }
 
 #[test]
@@ -88,5 +104,7 @@ fn numbers_of_refusals() {
         NoRule,
         ForeignPosition,
     ];
-    refusals.iter().for_each(|refusal| stands(source!("tables/src/refusal.rt"), refusal, refusal.number()));
+    for refusal in refusals {
+        stands(source!("tables/src/refusal.rt"), "REFUSAL", &refusal, refusal.number());
+    }
 }

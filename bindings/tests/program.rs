@@ -1,8 +1,8 @@
 //! A program collected row by row, every table in use.
 #![cfg(feature = "std")]
 use mugwortlatch::{
-    check, memory_references, resolve, sizes, FrameOperator, Instruction, Kind, MemoryReference, Node, Parameter,
-    Program, Refusal, Region, Reply, Session, Shape, UnresolvedCallArgument,
+    check, resolve, sizes, FrameOperator, Instruction, Kind, MemoryReference, Node, Parameter, Program, Refusal,
+    Region, Reply, Session, Shape, UnresolvedCallArgument, Walk,
 };
 
 const N: u64 = 1;
@@ -37,8 +37,9 @@ fn rows_are_counted() {
         [&[8, 1, 0, 2, 0], &[8, 2, 2, 3, 0], &[9, 0, 30, 0, 1], &[9, 0, 31, 1, 3], &[9, 0, 32, 4, 0]];
     assert_eq!(rows, expected);
     assert_eq!(tables.externs, [30, 4, 0, 1, 31, 1, 1, 2, 32, 4, 3, 0]);
-    let walked: Vec<u64> = memory_references(tables.nodes, 2, 3).unwrap().map(|reference| reference.index).collect();
-    assert_eq!(walked, [1]);
+    let mut walk = Walk::new();
+    let walked = walk.memory_references(tables.nodes, 2, 3).unwrap();
+    assert!(walked.eq([MemoryReference { name: R, index: 1 }]));
 }
 
 #[test]

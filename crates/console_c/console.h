@@ -161,8 +161,11 @@ enum {
 #define CONSOLE_ERROR_WIDTH 7
 /* A type error: its kind, row, spot of the operand, spot of `src` or 0, two codes. */
 #define CONSOLE_TYPE_ERROR_WIDTH 6
-/* What a walk finds: 1, name, index; or at the end 0, 0, 0. */
+/* What console_reference finds: 1, name, index; or at the end 0, 0, 0. */
 #define CONSOLE_FOUND_WIDTH 3
+/* A row of console_references: name, index. No expression has more than so many. */
+#define CONSOLE_REFERENCE_WIDTH 2
+#define CONSOLE_REFERENCE_LIMIT 1024
 
 /* A resolved row's first word, with the four after it. */
 enum {
@@ -210,7 +213,7 @@ enum {
     CONSOLE_CODE_ABSENT = 8,
     CONSOLE_CODE_REAL_OR_INTEGRAL = 9, /* required: INTEGER or REAL */
     CONSOLE_CODE_INTEGRAL = 10,        /* required: no REAL; of an offset: INTEGER */
-    CONSOLE_CODE_BIT = 11              /* required: BIT */
+    CONSOLE_CODE_BIT_ONLY = 11         /* required: BIT */
 };
 
 /* ---- Answers */
@@ -306,7 +309,7 @@ static inline const char *console_cause(uint64_t number)
 /* ---- The calls */
 
 /* The type check: 1, 2, 3, 5. error on 5: kind, row, spot, src spot, two codes. */
-uint64_t console_check(CONSOLE_TABLES, uint64_t error[6]);
+uint64_t console_check(CONSOLE_TABLES, uint64_t error[CONSOLE_TYPE_ERROR_WIDTH]);
 
 /* The resolved arguments of the CALL in that row: 1, 2, 3, 6, 7, 4, 8. rows takes 7 words an
  * argument. On 0 it holds count resolved rows of 5 words, on 8 count error rows of 7 words; count
@@ -323,7 +326,16 @@ uint64_t console_access(CONSOLE_TABLES, uint64_t row, uint64_t *reads, size_t re
  * of its nodes were passed, 0 at first. On 0 place is the new place, and found is 1, name, index;
  * or at the end, for good, place is node_count, and found is 0, 0, 0. */
 uint64_t console_reference(const uint64_t *nodes, size_t nodes_length, uint64_t first,
-                           uint64_t node_count, uint64_t place[1], uint64_t found[3]);
+                           uint64_t node_count, uint64_t place[1],
+                           uint64_t found[CONSOLE_FOUND_WIDTH]);
+
+/* The next references of that expression, as many as rows has room for: 1, 2. place as in
+ * console_reference. rows takes two words a reference, name and index; an odd last word stays, and
+ * a list of no room gets none. On 0 rows holds count references, and place is the place to go on
+ * from. The end is told by a count below the room, for good, and place is then node_count. */
+uint64_t console_references(const uint64_t *nodes, size_t nodes_length, uint64_t first,
+                            uint64_t node_count, uint64_t place[1], uint64_t *rows,
+                            size_t rows_length, uint64_t count[1]);
 
 /* Zeroes the cells of all regions, each with its declared kind: 1, 2, 3, 10, 4, 5, 9, then 6, 7, 8
  * by row. memory takes two words a cell, kind and word; words past the cells stay. journal takes
@@ -331,7 +343,8 @@ uint64_t console_reference(const uint64_t *nodes, size_t nodes_length, uint64_t 
  * 0. error on 5, as console_check. A refusal leaves memory as it was. */
 uint64_t console_open(CONSOLE_TABLES, uint64_t *memory, size_t memory_length,
                       const uint64_t *journal, size_t journal_length,
-                      uint64_t position[CONSOLE_POSITION], uint64_t error[6]);
+                      uint64_t position[CONSOLE_POSITION],
+                      uint64_t error[CONSOLE_TYPE_ERROR_WIDTH]);
 
 /* One step forward, the row at position: 1, 2, 3, 10, 4, 19, 11, 9, then for a CALL 6, 7, 8, 14,
  * 17, 13, else 17, 18, 14, 18, 14, 18, 15, 16, 13. memory takes 2 words a cell, a journal entry 3

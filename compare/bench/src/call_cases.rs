@@ -4,6 +4,7 @@ use crate::{
     inputs::{self, Names},
 };
 use library::lent;
+use mugwortlatch::Walk;
 use oracle::{
     expression::{plain_leaf, tree},
     program::{call, program, Naming},
@@ -32,7 +33,20 @@ pub fn all() -> Vec<Case> {
     let input = "arguments: 8, all fit; every table at its limit";
     cases.push(resolve(input.to_string(), inputs::limits(), 0, true));
     cases.push(access(input.to_string(), inputs::limits(), 0));
-    cases.extend([16, 128, 2048].map(walk));
+    cases.extend(walks());
+    cases
+}
+
+fn walks() -> Vec<Case> {
+    let deep = |count| walk(format!("a deep tree of {count} nodes"), inputs::deep_trees(1, count), count);
+    let mut cases: Vec<Case> = [16, 128, 2048].map(deep).into();
+    cases.push(walk(
+        "a tree of 2048 nodes, deep on the left, all leaves addresses".to_string(),
+        inputs::left_tree(),
+        2048,
+    ));
+    cases.push(walk("a chain of 2048 nodes".to_string(), inputs::chain(), 2048));
+    cases.push(walk("a deep tree of 16 nodes; 2048 in the table".to_string(), inputs::deep_trees(128, 16), 16));
     cases
 }
 
@@ -81,19 +95,25 @@ fn access(input: String, tables: Tables, row: u64) -> Case {
     }
 }
 
-/// All references of a deep tree. No goal is set for it.
-fn walk(count: u64) -> Case {
-    let mut tables = inputs::regions(8, 8);
-    inputs::frames(&mut tables, 1, count);
-    let nodes = tables.nodes;
-    let expression = tree(&nodes, |_, node| plain_leaf(node)).expect("one tree");
-    let ours = move || mugwortlatch::memory_references(hidden(&nodes), 0, count).map_or(0, Iterator::count);
-    let theirs = move || hidden(&expression).memory_references().count();
-    assert_eq!(ours(), theirs());
+/// All references of the tree that the first nodes are; the indices are added up, so that each is looked at.
+fn walk(input: String, nodes: Vec<u64>, count: u64) -> Case {
+    let first = &nodes[..count as usize * tables::NODE];
+    let expression = tree(first, |_, node| plain_leaf(node)).expect("one tree");
+    let add = |sum: u64, index: u64| sum.wrapping_add(index).wrapping_add(1);
+    let ours = move || {
+        let (nodes, mut walk) = (hidden(&nodes), Walk::new());
+        let all = walk.memory_references(nodes, 0, count).expect("accepted");
+        all.fold(0, |sum, reference| add(sum, reference.index))
+    };
+    let theirs = move || {
+        let all = hidden(&expression).memory_references();
+        all.fold(0, |sum, reference| add(sum, reference.index))
+    };
+    assert_eq!(ours(), theirs(), "{input}");
     Case {
         call: "references",
-        input: format!("all of a deep tree of {count} nodes"),
-        goal: None,
+        input,
+        goal: Some(1.0),
         against: Against::QuilRs,
         ours: Box::new(move || {
             hidden(ours());

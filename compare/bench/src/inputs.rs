@@ -91,6 +91,26 @@ fn deep_tree(tables: &mut Tables, nodes: u64) -> u64 {
     first
 }
 
+/// The nodes of so many deep trees of that many nodes each.
+pub fn deep_trees(count: u64, nodes: u64) -> Vec<u64> {
+    let mut tables = regions(8, 8);
+    (0..count).for_each(|_| {
+        deep_tree(&mut tables, nodes);
+    });
+    tables.nodes
+}
+
+/// A tree of 2,048 nodes, all but the last of its infix nodes on the left, every leaf an address.
+pub fn left_tree() -> Vec<u64> {
+    let leaves = (0..1024).flat_map(|i| [0, region(i), i]);
+    [5, 0, 0].into_iter().chain([2, 0, 0].repeat(1023)).chain(leaves).collect()
+}
+
+/// An address under 2,047 nodes of one child.
+pub fn chain() -> Vec<u64> {
+    [5, 0, 0].repeat(2047).into_iter().chain([0, region(0), 0]).collect()
+}
+
 fn frame(operator: u64, first: u64, nodes: u64) -> [u64; INSTRUCTION] {
     [8, operator % 5, first, nodes, 0, 0, 3, 0, 0]
 }

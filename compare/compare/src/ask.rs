@@ -1,36 +1,9 @@
 //! Asks the library, and looks after every word that was lent.
-use tables::{blank, blanks, Answer, Console, Query, Tables};
-
-/// Words on either side of a lent buffer that no call may touch.
-const GUARD: usize = 4;
-
-struct Lent {
-    words: Vec<u64>,
-}
-
-impl Lent {
-    fn new(length: usize) -> Self {
-        let mut words = blanks(GUARD);
-        words.extend(blanks(length));
-        words.extend(blanks(GUARD));
-        Lent { words }
-    }
-
-    fn buffer(&mut self) -> &mut [u64] {
-        let length = self.words.len() - 2 * GUARD;
-        &mut self.words[GUARD..][..length]
-    }
-
-    /// The buffer, or nothing if a word beside it changed.
-    fn taken_back(self) -> Option<Vec<u64>> {
-        let length = self.words.len() - 2 * GUARD;
-        let kept = |part: &[u64]| part.iter().enumerate().all(|(i, &word)| word == blank(i));
-        if kept(&self.words[..GUARD]) && kept(&self.words[GUARD + length..]) {
-            return Some(self.words[GUARD..][..length].to_vec());
-        }
-        None
-    }
-}
+use crate::{
+    lent::{blanks_array, Lent},
+    walk::walk,
+};
+use tables::{Answer, Console, Query, Tables};
 
 /// The library's answer with all lent contents, or what it did that no call may do.
 pub fn ask(console: &dyn Console, tables: &Tables, query: Query) -> Result<Answer, String> {
@@ -65,32 +38,4 @@ pub fn ask(console: &dyn Console, tables: &Tables, query: Query) -> Result<Answe
         return Err("a table was written".to_string());
     }
     Ok(answer)
-}
-
-fn blanks_array<const N: usize>() -> [u64; N] {
-    let mut words = [0; N];
-    words.iter_mut().enumerate().for_each(|(i, word)| *word = blank(i));
-    words
-}
-
-/// References until the end has been told twice. The place has no counterpart: it must grow with each reference.
-fn walk(console: &dyn Console, nodes: &[u64], first: u64, count: u64) -> Result<Answer, String> {
-    let mut place = [0];
-    let mut out = Vec::new();
-    let mut ends = 0;
-    while ends < 2 {
-        let before = place[0];
-        let mut found = blanks_array::<3>();
-        let number = console.reference(nodes, first, count, &mut place, &mut found);
-        if number != 0 {
-            return Ok(Answer { number, out, lent: Vec::new() });
-        }
-        out.extend(found);
-        match found[0] {
-            0 => ends += 1,
-            _ if before < place[0] && place[0] <= count => {}
-            _ => return Err(format!("the place went from {before} to {}", place[0])),
-        }
-    }
-    Ok(Answer { number: 0, out, lent: Vec::new() })
 }

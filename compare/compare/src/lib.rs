@@ -2,12 +2,14 @@
 mod ask;
 mod differ;
 mod exhaustive;
+mod lent;
 mod options;
 mod program;
 mod random;
 mod report;
 mod shrink;
 mod vectors;
+mod walk;
 
 use differ::{difference, Difference};
 use options::Options;

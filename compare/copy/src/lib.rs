@@ -1,6 +1,6 @@
 //! An unproved copy of the library: crates/*/src without the contracts, compiled as Rust. Sensitivity runs edit such a
 //! copy; the proved library itself cannot be had with the edit in it.
-use console_c::{access, back, check, forward, open, reference, resolve};
+use console_c::{access, back, check, forward, open, reference, references, resolve};
 use tables::{Console, Session, Tables};
 
 pub struct Unproved;
@@ -35,6 +35,18 @@ impl Console for Unproved {
 
     fn reference(&self, nodes: &[u64], first: u64, count: u64, place: &mut [u64; 1], found: &mut [u64; 3]) -> u64 {
         reference::console_reference(nodes, first, count, place, found)
+    }
+
+    fn references(
+        &self,
+        nodes: &[u64],
+        first: u64,
+        count: u64,
+        place: &mut [u64; 1],
+        rows: &mut [u64],
+        handed: &mut [u64; 1],
+    ) -> u64 {
+        references::console_references(nodes, first, count, place, rows, handed)
     }
 }
 

@@ -34,6 +34,18 @@ impl Console for Proved {
     fn reference(&self, nodes: &[u64], first: u64, count: u64, place: &mut [u64; 1], found: &mut [u64; 3]) -> u64 {
         raw::reference(nodes, first, count, place, found)
     }
+
+    fn references(
+        &self,
+        nodes: &[u64],
+        first: u64,
+        count: u64,
+        place: &mut [u64; 1],
+        rows: &mut [u64],
+        handed: &mut [u64; 1],
+    ) -> u64 {
+        raw::references(nodes, first, count, place, rows, handed)
+    }
 }
 
 impl Session for Proved {

@@ -10,4 +10,14 @@ pub trait Console {
     fn access(&self, tables: &Tables, row: u64, reads: &mut [u64], writes: &mut [u64], counts: &mut [u64; 2]) -> u64;
 
     fn reference(&self, nodes: &[u64], first: u64, count: u64, place: &mut [u64; 1], found: &mut [u64; 3]) -> u64;
+
+    fn references(
+        &self,
+        nodes: &[u64],
+        first: u64,
+        count: u64,
+        place: &mut [u64; 1],
+        rows: &mut [u64],
+        handed: &mut [u64; 1],
+    ) -> u64;
 }

@@ -1,0 +1,118 @@
+/* The calls on tables alone: a type error, a CALL's arguments and names, an expression's
+ * references. A session is in example.c. Build and run from the repository's root:
+ *   rt staticlib console_c
+ *   cc -o target/calls crates/console_c/calls.c target/staticlib/libconsole_c.a && target/calls */
+#include "console.h"
+
+#include <inttypes.h>
+#include <stdio.h>
+
+/* Names are any numbers: a and n are regions, f an extern, x its parameter. */
+enum { A = 0, N = 1, X = 5, F = 7 };
+
+/* DECLARE a BIT[2]; DECLARE n INTEGER[3] */
+static const uint64_t regions[] = {A, CONSOLE_KIND_BIT, 2, N, CONSOLE_KIND_INTEGER, 3};
+/* f returns an INTEGER and takes x, a mutable INTEGER: one parameter, from row 0 on */
+static const uint64_t externs[] = {F, CONSOLE_KIND_INTEGER, 0, 1};
+static const uint64_t parameters[] = {X, 1, CONSOLE_SHAPE_SCALAR, CONSOLE_KIND_INTEGER, 0};
+/* n[1] + (-n[2]) * n[1] */
+static const uint64_t nodes[] = {
+    CONSOLE_NODE_INFIX,   0, 0, /* its left child comes next, then its right one */
+    CONSOLE_NODE_ADDRESS, N, 1,
+    CONSOLE_NODE_INFIX,   0, 0,
+    CONSOLE_NODE_PREFIX,  0, 0,
+    CONSOLE_NODE_ADDRESS, N, 2,
+    CONSOLE_NODE_ADDRESS, N, 1,
+};
+/* n[0] for the return, n[2] for x */
+static const uint64_t arguments[] = {
+    CONSOLE_ARGUMENT_REFERENCE, N, 0,
+    CONSOLE_ARGUMENT_REFERENCE, N, 2,
+};
+static const uint64_t instructions[] = {
+    /* CALL f n[0] n[2]: two arguments, from row 0 on */
+    CONSOLE_FAMILY_CALL, 0, F, 0, 2, 0, CONSOLE_SOURCE_NONE, 0, 0,
+    /* ADD a[0] 1 */
+    CONSOLE_FAMILY_ARITHMETIC, CONSOLE_OPERATOR_ADD, A, 0, 0, 0,
+    CONSOLE_SOURCE_INTEGER_LITERAL, 1, 0,
+};
+enum { CALL_ROW = 0, CALL_ARGUMENTS = 2, NODES = 6 };
+
+#define LENGTH(x) (sizeof(x) / sizeof((x)[0]))
+#define TABLES                                                                                \
+    regions, LENGTH(regions), externs, LENGTH(externs), parameters, LENGTH(parameters), nodes, \
+        LENGTH(nodes), arguments, LENGTH(arguments), instructions, LENGTH(instructions)
+
+static void print(const char *label, uint64_t number, const uint64_t *words, size_t count)
+{
+    printf("%s: %" PRIu64, label, number);
+    for (size_t i = 0; i < count; i++)
+        printf(" %" PRIu64, words[i]);
+    printf("\n");
+}
+
+static void check(void)
+{
+    uint64_t error[CONSOLE_TYPE_ERROR_WIDTH] = {0};
+    uint64_t number = console_check(TABLES, error);
+    print("check", number, error, LENGTH(error));
+}
+
+static void resolve(void)
+{
+    uint64_t rows[CONSOLE_ERROR_WIDTH * CALL_ARGUMENTS] = {0}, count[1] = {0};
+    uint64_t number = console_resolve(TABLES, CALL_ROW, rows, LENGTH(rows), count);
+    print("resolve", number, rows, CONSOLE_RESOLVED_WIDTH * count[0]);
+}
+
+static void access(void)
+{
+    uint64_t reads[CALL_ARGUMENTS] = {0}, writes[CALL_ARGUMENTS] = {0}, counts[2] = {0};
+    uint64_t number = console_access(TABLES, CALL_ROW, reads, LENGTH(reads), writes,
+                                     LENGTH(writes), counts);
+    print("access reads", number, reads, counts[0]);
+    print("access writes", number, writes, counts[1]);
+}
+
+/* All references in one call. A list of 2,048 words has room for those of any expression. */
+static void references(void)
+{
+    uint64_t rows[CONSOLE_REFERENCE_WIDTH * CONSOLE_REFERENCE_LIMIT];
+    uint64_t place[1] = {0}, count[1] = {0};
+    uint64_t number =
+        console_references(nodes, LENGTH(nodes), 0, NODES, place, rows, LENGTH(rows), count);
+    print("references", number, rows, CONSOLE_REFERENCE_WIDTH * count[0]);
+}
+
+/* The same by a list of two rows, going on from the place until the list is not full. */
+static void references_by_two(void)
+{
+    uint64_t rows[CONSOLE_REFERENCE_WIDTH * 2], place[1] = {0}, count[1];
+    do {
+        count[0] = 0;
+        uint64_t number =
+            console_references(nodes, LENGTH(nodes), 0, NODES, place, rows, LENGTH(rows), count);
+        print("references by two", number, rows, CONSOLE_REFERENCE_WIDTH * count[0]);
+    } while (count[0] == 2);
+}
+
+/* One at a time. Each call looks at all nodes anew, so this is for short expressions. */
+static void reference(void)
+{
+    uint64_t place[1] = {0}, found[CONSOLE_FOUND_WIDTH] = {0};
+    do {
+        uint64_t number = console_reference(nodes, LENGTH(nodes), 0, NODES, place, found);
+        print("reference", number, found, LENGTH(found));
+    } while (found[0] == 1);
+}
+
+int main(void)
+{
+    check();
+    resolve();
+    access();
+    references();
+    references_by_two();
+    reference();
+    return 0;
+}
