@@ -107,10 +107,12 @@ fn window_at(view: View, rows: usize, done: usize) -> Window {
             end: rows,
         };
     }
-    let start = if done < ROWS_BEFORE {
+    // A foreign writer's position may lie past the rows.
+    let at = least(done, rows);
+    let start = if at < ROWS_BEFORE {
         0
     } else {
-        done - ROWS_BEFORE
+        at - ROWS_BEFORE
     };
     Window {
         start,
