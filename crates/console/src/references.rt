@@ -1,8 +1,10 @@
-// The references of one expression, one call at a time.
+// The references of one expression, one at a time or by lists.
 ghost use mathlib.Core.Path.{_≡_};
-ghost use Rattle.console.specs.References.{referencesTable};
+ghost use Rattle.console.specs.References.{referencesTable, referencing, referencesList};
 use loader::load::load_nodes;
 use memory::Stepped;
+use memory::batch::Handed;
+use memory::batch::references_in;
 use memory::next_in;
 use tables::look::Look;
 
@@ -21,4 +23,27 @@ pub fn memory_references(nodes: &[u64], first: u64, count: u64, place: usize) ->
         return WalkAnswer::Refused(number);
     }
     WalkAnswer::Went(next_in(nodes, first, count, place))
+}
+
+// A refusal by its number, or how many references were put into the list with the place to go on from.
+pub enum ReferencesAnswer {
+    Refused(u64),
+    Handed(Handed),
+}
+
+// The next references of the same tree from the place on, as many as the list has room for.
+pub fn references(
+    nodes: &[u64],
+    first: u64,
+    count: u64,
+    place: usize,
+    rows: &mut [u64],
+) -> ReferencesAnswer
+    ensures { λ r. ⌜ referencing r (now (rows .exit)) ≡ referencesList (now (nodes .entry)) first count place (now (rows .entry)) ⌝ }
+{
+    let loaded = load_nodes(nodes, first, count);
+    if let Look::Refused(number) = loaded {
+        return ReferencesAnswer::Refused(number);
+    }
+    ReferencesAnswer::Handed(references_in(nodes, first, count, place, rows))
 }

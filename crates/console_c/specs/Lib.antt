@@ -2,6 +2,7 @@ pub mod Check
 pub mod Resolve
 pub mod Access
 pub mod Reference
+pub mod References
 pub mod Position
 pub mod Open
 pub mod Forward

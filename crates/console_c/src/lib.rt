@@ -6,4 +6,5 @@ pub mod forward;
 pub mod open;
 pub mod position;
 pub mod reference;
+pub mod references;
 pub mod resolve;

@@ -2,3 +2,4 @@
 pub mod Loaded
 pub mod SourceLaws
 pub mod NodesLaws
+pub mod ExpressionLaws

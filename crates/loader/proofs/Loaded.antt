@@ -69,7 +69,7 @@ chosen xs row family e =
     let (l, f) = both (ltb row (R.instructionRows xs)) _ e in
     (ltb-true row (R.instructionRows xs) l, eqb-true (R.instructionAt xs row .family) family f)
 
-few : (width limit : ℕ) (xs : List ℕ) → wholeRows width limit xs ≡ true → length xs / width ≤ limit
+pub few : (width limit : ℕ) (xs : List ℕ) → wholeRows width limit xs ≡ true → length xs / width ≤ limit
 unfolding wholeRows
 few width limit xs e = leb-true (length xs / width) limit (both (eqb (length xs % width) 0) _ e .1)
 

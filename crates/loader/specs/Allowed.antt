@@ -4,7 +4,7 @@ use mathlib.Core.Bool.{Bool, true, false, _&&_, _||_}
 use mathlib.Core.List.{List, [], _∷_}
 use lib.Dec.{eqb, leb}
 use Rattle.words.specs.Kind.{real}
-use Rattle.tables.specs.First.{every}
+use Rattle.tables.specs.First.{every, everyFrom}
 use Rattle.tables.specs.Cases.{caseOf}
 use Rattle.tables.specs.NodeTag as tag
 use Rattle.tables.specs.ArgumentForm as form
@@ -71,6 +71,10 @@ parametersAllowed xs = every (λ k. parameterAllowed (parameterAt xs k)) (parame
 
 unfoldable pub nodesAllowed : List ℕ → Bool
 nodesAllowed xs = every (λ k. nodeAllowed (nodeAt xs k)) (nodeRows xs)
+
+-- the n nodes from row i on
+abbrev pub nodesAllowedFrom : List ℕ → ℕ → ℕ → Bool
+nodesAllowedFrom xs i n = everyFrom (λ k. nodeAllowed (nodeAt xs k)) i n
 
 unfoldable pub argumentsAllowed : List ℕ → Bool
 argumentsAllowed xs = every (λ k. argumentAllowed (argumentAt xs k)) (argumentRows xs)

@@ -1,5 +1,6 @@
--- Refusals 1 (Shape), 2 (Allowed, Instruction) and 3, and their order (Load).
+-- Refusals 1 (Shape), 2 (Allowed, Expression, Instruction) and 3, and their order (Load).
 pub mod Shape
 pub mod Allowed
 pub mod Instruction
+pub mod Expression
 pub mod Load

@@ -1,6 +1,8 @@
 // Refusal 2, of every table but the instructions: the words that each row allows.
 ghost use mathlib.Core.Path.{_≡_};
-ghost use Rattle.loader.specs.Allowed.{regionAllowed, externAllowed, parameterAllowed, nodeAllowed, argumentAllowed, regionsAllowed, externsAllowed, parametersAllowed, nodesAllowed, argumentsAllowed};
+ghost use Prim.Native.Nat.{_-_, _≤_};
+ghost use Rattle.tables.specs.Rows.{nodeRows};
+ghost use Rattle.loader.specs.Allowed.{regionAllowed, externAllowed, parameterAllowed, nodeAllowed, argumentAllowed, regionsAllowed, externsAllowed, parametersAllowed, nodesAllowedFrom, argumentsAllowed};
 use tables::argument_form;
 use tables::node_tag;
 use tables::parameter_shape::FIXED_VECTOR;
@@ -10,7 +12,6 @@ use tables::rows::ARGUMENT_WIDTH;
 use tables::rows::Argument;
 use tables::rows::EXTERN_WIDTH;
 use tables::rows::Extern;
-use tables::rows::NODE_WIDTH;
 use tables::rows::Node;
 use tables::rows::PARAMETER_WIDTH;
 use tables::rows::Parameter;
@@ -110,12 +111,13 @@ pub fn parameters_allowed(parameters: &[u64]) -> bool
     true
 }
 
-pub fn nodes_allowed(nodes: &[u64]) -> bool
-    ensures { λ r. ⌜ r ≡ nodesAllowed (now (nodes .entry)) ⌝ }
+// The nodes from `first` to before `end`.
+pub fn nodes_allowed(nodes: &[u64], first: usize, end: usize) -> bool
+    requires { ⌜ end ≤ nodeRows (now nodes) ⌝ }
+    ensures { λ r. ⌜ r ≡ nodesAllowedFrom (now (nodes .entry)) first (end - first) ⌝ }
 {
-    let rows = nodes.len() / NODE_WIDTH;
-    let mut i = 0;
-    while i < rows {
+    let mut i = first;
+    while i < end {
         if !node_allowed(tables::rows::node_at(nodes, i)) {
             return false;
         }

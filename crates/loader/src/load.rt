@@ -7,9 +7,9 @@ ghost use Rattle.tables.specs.Look.{lookOutcome};
 ghost use Rattle.loader.specs.Load.{allowedTables, distinctNames, chosenRow, loadLook, loadRowLook, loadNodesLook};
 use crate::allowed::arguments_allowed;
 use crate::allowed::externs_allowed;
-use crate::allowed::nodes_allowed;
 use crate::allowed::parameters_allowed;
 use crate::allowed::regions_allowed;
+use crate::expression::expression_allowed;
 use crate::instruction::nodes_and_rows_allowed;
 use crate::shape::whole_rows;
 use crate::shape::whole_tables;
@@ -25,7 +25,6 @@ use tables::rows::NODE_LIMIT;
 use tables::rows::NODE_WIDTH;
 use tables::rows::PARAMETER_WIDTH;
 use tables::rows::REGION_WIDTH;
-use tables::tree::one_tree;
 
 // Every word rule of every table, of tables within their limits.
 fn allowed_tables(
@@ -125,10 +124,7 @@ pub fn load_nodes(nodes: &[u64], first: u64, count: u64) -> Look
     if !whole_rows(nodes, NODE_WIDTH, NODE_LIMIT) {
         return Look::Refused(TABLE_SHAPE);
     }
-    if !nodes_allowed(nodes) {
-        return Look::Refused(WORD_NOT_ALLOWED);
-    }
-    if !one_tree(nodes, first, count) {
+    if !expression_allowed(nodes, first, count) {
         return Look::Refused(WORD_NOT_ALLOWED);
     }
     Look::Accepted

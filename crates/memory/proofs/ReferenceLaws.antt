@@ -1,5 +1,5 @@
 -- The references of exactly one tree are its address rows, in row order. Assumes nothing.
-use Prim.Native.Nat.{ℕ, zero, suc, _+_, _-_, _≤_}
+use Prim.Native.Nat.{ℕ, zero, suc, _+_, _-_, _*_, _≤_}
 use mathlib.Core.Bool.{Bool, true, false, cond, _&&_}
 use mathlib.Core.List.{List, _∷_, _++_}
 use mathlib.Core.Path.{_≡_, refl, sym, ap, _∙_}
@@ -8,7 +8,7 @@ use native.Mathlib.Omega.{arith}
 use borrow.Author.Tests.{ne-eqb}
 use lib.Dec.{eqb}
 use Rattle.tables.proofs.FirstLaws.{never}
-use Rattle.tables.specs.Rows.{nodeRows, nodeTag}
+use Rattle.tables.specs.Rows.{nodeWidth, nodeRows, nodeTag}
 use Rattle.tables.specs.Tree.{arityOf, treesFrom, inside, oneTree}
 use Rattle.tables.proofs.TreeLaws.{arity-le, inside-le}
 use Rattle.memory.specs.References.{isAddress, referenceAt, Walked, treeAt, references, rowReferences}
@@ -26,6 +26,10 @@ module _ (nodes : List ℕ) (i n : ℕ) (e : oneTree nodes i n ≡ true) where
   -- a range that is one tree lies in its table
   pub one-tree-inside : i + n ≤ nodeRows nodes
   one-tree-inside = inside-le i n (nodeRows nodes) (parts .0)
+
+-- the part of a table that count rows are
+pub part-words : (first count : ℕ) → (first + count) * nodeWidth - first * nodeWidth ≡ count * nodeWidth
+part-words first count = omega arith
 
 cond-append : (b : Bool) (x : MemoryReference) (l m : List MemoryReference) → cond b (x ∷ (l ++ m)) (l ++ m) ≡ cond b (x ∷ l) l ++ m
 cond-append true x l m = refl

@@ -4,13 +4,14 @@ use mathlib.Core.Bool.{Bool, true, false, cond}
 use mathlib.Core.List.{List, [], _∷_}
 use mathlib.Core.Path.{_≡_, refl, sym, ap, _∙_}
 use native.Mathlib.Omega.{arith}
-use lib.ListN.{length, getD, length-take, length-drop}
-use lib.Seq.{getD-take, getD-drop}
+use lib.ListN.{length, getD, take, length-take, length-drop}
+use lib.Seq.{take-all, getD-take, getD-drop}
 use Rattle.tables.specs.First.{first}
 use Rattle.tables.specs.Rows.{nodeRows}
 use Rattle.tables.specs.Tree.{oneTree}
 use Rattle.memory.specs.References.{isAddress, referenceAt, references, rowReferences, handedOut, ended, nextFrom, nextOf, nodesIn, nextIn}
-use Rattle.memory.specs.Walk.{kthCall, kthOf, Walk}
+use Rattle.memory.specs.Batch.{Batch, stepThen, batchOf, batchIn}
+use Rattle.memory.specs.Walk.{kthCall, kthOf, Walk, goingOn, Batches}
 use Rattle.memory.specs.declared.MemoryReference.{MemoryReference}
 use Rattle.memory.specs.declared.Next.{Next}
 use Rattle.memory.specs.declared.Next.the-variants.{Reference, End}
@@ -68,6 +69,42 @@ calls-by-row nodes place (suc k) =
     calls-by-row nodes (nextOf nodes place .place) k ∙
     (told-later nodes (nextOf nodes place .found) (nextOf nodes place .place) k (λ e. ap (λ (s : Stepped). s .place) (next-step nodes place .over e)) ∙
     ap (λ l. kthOf l (suc k)) (sym (next-step nodes place .says)))
+
+-- ---- lists of references
+
+-- past the rows there is none, for good
+batch-ended : (nodes : List ℕ) (room : ℕ) → batchOf nodes (nodeRows nodes) room ≡ record { references = []; place = nodeRows nodes }
+unfolding batchOf nextOf first
+batch-ended nodes zero = refl
+batch-ended nodes (suc room) = let z : nodeRows nodes - nodeRows nodes ≡ 0 = omega arith in rw z
+
+told-batch : (nodes : List ℕ) (room : ℕ) (s : Next) (p : ℕ) → batchOf nodes p room .references ≡ take room (rest nodes p)
+    → stepThen s p (λ q. batchOf nodes q room) .references ≡ take (suc room) (told nodes s p)
+told-batch nodes room (Reference r) p e = ap (λ l. r ∷ l) e
+told-batch nodes room End p e = refl
+
+-- a list gets the addresses at or after the place, as many as it has room for
+batch-by-row : (nodes : List ℕ) (place room : ℕ) → batchOf nodes place room .references ≡ take room (rest nodes place)
+unfolding batchOf
+batch-by-row nodes place zero = refl
+batch-by-row nodes place (suc room) =
+    told-batch nodes room (nextOf nodes place .found) (nextOf nodes place .place) (batch-by-row nodes (nextOf nodes place .place) room) ∙
+    ap (take (suc room)) (sym (next-step nodes place .says))
+
+step-goes-on : (nodes : List ℕ) (a b : ℕ) (s : Next) (p : ℕ) → (s ≡ End → p ≡ nodeRows nodes)
+    → batchOf nodes p (a + b) ≡ goingOn (batchOf nodes p a) (λ q. batchOf nodes q b)
+    → stepThen s p (λ q. batchOf nodes q (a + b)) ≡ goingOn (stepThen s p (λ q. batchOf nodes q a)) (λ q. batchOf nodes q b)
+step-goes-on nodes a b (Reference r) p h e = ap (λ (x : Batch). record { references = r ∷ x .references; place = x .place }) e
+step-goes-on nodes a b End p h e = rw (h refl, batch-ended nodes b)
+
+batch-goes-on : (nodes : List ℕ) (a place b : ℕ) → batchOf nodes place (a + b) ≡ goingOn (batchOf nodes place a) (λ p. batchOf nodes p b)
+unfolding batchOf
+batch-goes-on nodes zero place b = let e : zero + b ≡ b = omega arith in rw e
+batch-goes-on nodes (suc a) place b =
+    let e : suc a + b ≡ suc (a + b) = omega arith in
+    rw e
+    (step-goes-on nodes a b (nextOf nodes place .found) (nextOf nodes place .place) (λ f. ap (λ (s : Stepped). s .place) (next-step nodes place .over f))
+    (batch-goes-on nodes a (nextOf nodes place .place) b))
 
 word-in : (nodes : List ℕ) (i n w : ℕ) → w < n * 3 → getD (nodesIn nodes i n) w 0 ≡ getD nodes (i * 3 + w) 0
 word-in nodes i n w h = rw (getD-take, getD-drop)
@@ -128,4 +165,18 @@ module _ (nodes : List ℕ) (i n : ℕ) (one : oneTree nodes i n ≡ true) where
         order = references-by-row nodes i n one;
         calls = calls-references;
         end = λ place f. end-for-good place (nextIn nodes i n place) refl f;
+      }
+
+  batch-references : (room : ℕ) → batchIn nodes i n 0 room .references ≡ take room (references nodes i n)
+  unfolding batchIn
+  batch-references room = batch-by-row (nodesIn nodes i n) 0 room ∙ ap (take room) all-in
+
+  -- and by lists
+  pub tree-batches : Batches nodes i n
+  unfolding batchIn
+  tree-batches =
+      record {
+        start = batch-references;
+        all = λ room h. batch-references room ∙ take-all room (references nodes i n) h;
+        goOn = λ place a b. batch-goes-on (nodesIn nodes i n) a place b;
       }

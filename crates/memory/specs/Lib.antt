@@ -1,3 +1,4 @@
 pub mod References
+pub mod Batch
 pub mod Walk
 pub mod Reader

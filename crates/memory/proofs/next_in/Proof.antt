@@ -1,16 +1,12 @@
-use Prim.Native.Nat.{ℕ, _+_, _-_, _*_}
-use mathlib.Core.Path.{_≡_, ap, _∙_}
+use Prim.Native.Nat.{ℕ, _*_}
+use mathlib.Core.Path.{ap, _∙_}
 use native.Mathlib.Omega.{arith}
 use lib.ListN.{take, drop}
 use Rattle.memory.specs.References.{nextOf, nextIn}
-use Rattle.memory.proofs.ReferenceLaws.{one-tree-inside}
+use Rattle.memory.proofs.ReferenceLaws.{one-tree-inside, part-words}
 use borrow.Author.Needs.{needs}
 use Rattle.memory.proofs.next_in.Statement.{statement}
 use Rattle.memory.proofs.next_in.Tie as tie
-
--- the part has count rows
-width : (first count : ℕ) → (first + count) * 3 - first * 3 ≡ count * 3
-width first count = omega arith
 
 mul-start : tie.Need-mul-start
 mul-start c = omega (arith, one-tree-inside _ _ _ (c .before .pre))
@@ -38,7 +34,7 @@ next-from-requires c κs = search needs
 
 returns : tie.Need-returns
 unfolding nextIn
-returns c = c .next-from .ensures ∙ ap (λ (m : ℕ). nextOf (take m (drop (c .before .before .before .args .first * 3) (c .before .before .before .args .nodes .now))) (c .before .before .before .args .place)) (width (c .before .before .before .args .first) (c .before .before .before .args .count))
+returns c = c .next-from .ensures ∙ ap (λ (m : ℕ). nextOf (take m (drop (c .before .before .before .args .first * 3) (c .before .before .before .args .nodes .now))) (c .before .before .before .args .place)) (part-words (c .before .before .before .args .first) (c .before .before .before .args .count))
 
 pub next-in-spec : {M : Type 1} → statement M
 next-in-spec =

@@ -1,10 +1,9 @@
-use Prim.Native.Nat.{ℕ, _-_}
+use Prim.Native.Nat.{_-_}
+use mathlib.Core.Bool.{not}
 use mathlib.Core.Path.{_≡_, refl, sym, ap, _∙_}
 use borrow.Author.Tests.{not-true, not-false}
-use Rattle.tables.specs.First.{everyFrom}
-use Rattle.tables.specs.Rows.{nodeRows, nodeAt}
-use Rattle.loader.specs.Allowed.{nodeAllowed, nodesAllowed}
-use Rattle.tables.proofs.FirstLaws.{every-start, every-stop, every-turn, every-end}
+use Rattle.loader.specs.Allowed.{nodeAllowed, nodesAllowedFrom}
+use Rattle.tables.proofs.FirstLaws.{first-hit, first-miss, first-end}
 use borrow.Author.Needs.{needs}
 use Rattle.loader.proofs.allowed.nodes_allowed.Statement.{statement}
 use Rattle.loader.proofs.allowed.nodes_allowed.Tie as tie
@@ -14,14 +13,13 @@ use Rattle.loader.proofs.allowed.node_allowed.Reads as node-allowed-rea
 use Rattle.tables.proofs.rows.node_at.Reads as node-at-reads
 
 abbrev Inv-loop : tie.InvT-loop
-Inv-loop nodes rows i₀ i = (rows ≡ nodeRows nodes) × (everyFrom (λ k. nodeAllowed (nodeAt nodes k)) i (rows - i) ≡ nodesAllowed nodes)
+Inv-loop nodes first end i₀ i = nodesAllowedFrom nodes i (end - i) ≡ nodesAllowedFrom nodes first (end - first)
 
 abbrev μ-loop : tie.MeasureT-loop
-μ-loop nodes rows i₀ i = rows - i
+μ-loop nodes first end i₀ i = end - i
 
 loop-holds : tie.Need-loop-holds Inv-loop μ-loop
-unfolding nodesAllowed
-loop-holds c = (refl, every-start _ _)
+loop-holds c = refl
 
 node-at-requires : tie.Need-node-at-requires Inv-loop μ-loop
 node-at-requires c κs = search needs
@@ -30,8 +28,7 @@ node-allowed-requires : tie.Need-node-allowed-requires Inv-loop μ-loop
 node-allowed-requires c κs = search needs
 
 returns : tie.Need-returns Inv-loop μ-loop
-unfolding nodesAllowed
-returns c = every-stop _ _ _ (c .before .before .before .before .loop .inv .1) (search needs) (ap nodeAllowed (sym (c .before .before .node-at .ensures)) ∙ (sym (c .before .node-allowed .ensures) ∙ not-true _ (c .if1 .taken)))
+returns c = sym (first-hit _ _ _ _ _ (search needs) (ap not (ap nodeAllowed (sym (c .before .before .node-at .ensures)) ∙ (sym (c .before .node-allowed .ensures) ∙ not-true _ (c .if1 .taken))))) ∙ c .before .before .before .before .loop .inv
 
 add-i : tie.Need-add-i Inv-loop μ-loop
 add-i c = search needs
@@ -40,12 +37,10 @@ loop-less : tie.Need-loop-less Inv-loop μ-loop
 loop-less c = search needs
 
 loop-again : tie.Need-loop-again Inv-loop μ-loop
-unfolding nodesAllowed
-loop-again c = (c .before .before .before .before .loop .inv .0, every-turn _ _ _ (c .before .before .before .before .loop .inv .1) (search needs) (ap nodeAllowed (sym (c .before .before .node-at .ensures)) ∙ (sym (c .before .node-allowed .ensures) ∙ not-false _ (c .if1 .left))))
+loop-again c = sym (first-miss _ _ _ _ _ (search needs) (ap not (ap nodeAllowed (sym (c .before .before .node-at .ensures)) ∙ (sym (c .before .node-allowed .ensures) ∙ not-false _ (c .if1 .left))))) ∙ c .before .before .before .before .loop .inv
 
 returns-2 : tie.Need-returns-2 Inv-loop μ-loop
-unfolding nodesAllowed
-returns-2 c = every-end _ _ _ (c .before .loop .inv .1) (search needs)
+returns-2 c = sym (first-end _ _ _ _ _ (search needs)) ∙ c .before .loop .inv
 
 pub nodes-allowed-spec : {M : Type 1} → statement M
 nodes-allowed-spec =

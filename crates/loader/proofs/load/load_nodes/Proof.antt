@@ -1,8 +1,12 @@
+use mathlib.Core.Bool.{true, false}
 use mathlib.Core.Path.{sym, _∙_}
 use borrow.Author.Needs.{needs}
 use borrow.Author.Tests.{not-true, not-false}
+use Rattle.tables.specs.Rows.{nodeWidth, nodeLimit}
 use Rattle.tables.specs.Outcome.{_>>=_, _>>_, need}
 use Rattle.loader.specs.Load.{loadNodesLook}
+use Rattle.loader.proofs.Loaded.{few}
+use Rattle.loader.proofs.ExpressionLaws.{nodes-look}
 use Rattle.loader.proofs.load.load_nodes.Statement.{statement}
 use Rattle.loader.proofs.load.load_nodes.Tie as tie
 
@@ -13,23 +17,16 @@ returns : tie.Need-returns
 unfolding loadNodesLook _>>=_ _>>_ need
 returns c = rw (sym (c .before .whole-rows .ensures) ∙ not-true _ (c .if1 .taken))
 
-nodes-allowed-requires : tie.Need-nodes-allowed-requires
-nodes-allowed-requires c κs = search needs
+expression-allowed-requires : tie.Need-expression-allowed-requires
+expression-allowed-requires c κs = few nodeWidth nodeLimit _ (sym (c .before .whole-rows .ensures) ∙ not-false _ (c .if1 .left))
 
 returns-2 : tie.Need-returns-2
-unfolding loadNodesLook _>>=_ _>>_ need
-returns-2 c = rw (sym (c .before .before .before .whole-rows .ensures) ∙ not-false _ (c .before .before .if1 .left), sym (c .before .nodes-allowed .ensures) ∙ not-true _ (c .if2 .taken))
-
-one-tree-requires : tie.Need-one-tree-requires
-one-tree-requires c κs = search needs
+unfolding need
+returns-2 c = nodes-look _ _ _ false (sym (c .before .before .before .whole-rows .ensures) ∙ not-false _ (c .before .before .if1 .left)) (sym (not-true _ (c .if2 .taken)) ∙ c .before .expression-allowed .ensures)
 
 returns-3 : tie.Need-returns-3
-unfolding loadNodesLook _>>=_ _>>_ need
-returns-3 c = rw (sym (c .before .before .before .before .before .whole-rows .ensures) ∙ not-false _ (c .before .before .before .before .if1 .left), sym (c .before .before .before .nodes-allowed .ensures) ∙ not-false _ (c .before .before .if2 .left), sym (c .before .one-tree .ensures) ∙ not-true _ (c .if3 .taken))
-
-returns-4 : tie.Need-returns-4
-unfolding loadNodesLook _>>=_ _>>_ need
-returns-4 c = rw (sym (c .before .before .before .before .before .whole-rows .ensures) ∙ not-false _ (c .before .before .before .before .if1 .left), sym (c .before .before .before .nodes-allowed .ensures) ∙ not-false _ (c .before .before .if2 .left), sym (c .before .one-tree .ensures) ∙ not-false _ (c .if3 .left))
+unfolding need
+returns-3 c = nodes-look _ _ _ true (sym (c .before .before .before .whole-rows .ensures) ∙ not-false _ (c .before .before .if1 .left)) (sym (not-false _ (c .if2 .left)) ∙ c .before .expression-allowed .ensures)
 
 pub load-nodes-spec : {M : Type 1} → statement M
-load-nodes-spec = tie.close (tie.spec whole-rows-requires returns nodes-allowed-requires returns-2 one-tree-requires returns-3 returns-4)
+load-nodes-spec = tie.close (tie.spec whole-rows-requires returns expression-allowed-requires returns-2 returns-3)

@@ -1,0 +1,76 @@
+use Prim.Native.Nat.{_+_, _-_, _≤_}
+use mathlib.Core.Path.{_≡_, refl, sym, ap, _∙_}
+use native.Mathlib.Omega.{arith}
+use Rattle.loader.specs.Expression.{treesAllowed}
+use Rattle.loader.proofs.ExpressionLaws.{pass-stop, pass-refused, pass-left, pass-end}
+use borrow.Author.Needs.{needs}
+use Rattle.loader.proofs.expression.tree_allowed.Statement.{statement}
+use Rattle.loader.proofs.expression.tree_allowed.Tie as tie
+use Rattle.loader.proofs.expression.tree_allowed.Reads as reads
+use Rattle.loader.proofs.expression.tree_allowed.Lts as lts
+use Rattle.loader.proofs.expression.trees_after.Reads as trees-after-reads
+use Rattle.tables.proofs.rows.node_at.Reads as node-at-reads
+
+abbrev Inv-loop : tie.InvT-loop
+Inv-loop nodes first end trees₀ i₀ trees i = (i ≤ end) × (trees ≤ i + 1) × (treesAllowed nodes trees i (end - i) ≡ treesAllowed nodes 1 first (end - first))
+
+abbrev μ-loop : tie.MeasureT-loop
+μ-loop nodes first end trees₀ i₀ trees i = end - i
+
+loop-holds : tie.Need-loop-holds Inv-loop μ-loop
+loop-holds c = (omega arith, omega arith, refl)
+
+returns : tie.Need-returns Inv-loop μ-loop
+returns c = sym (pass-stop (c .before .before .before .before .args .nodes .now) _ (c .before .before .loop .i) (c .before .before .before .before .args .end) (search needs) (c .if1 .taken)) ∙ c .before .before .loop .inv .2
+
+node-at-requires : tie.Need-node-at-requires Inv-loop μ-loop
+node-at-requires c κs = search needs
+
+trees-after-requires : tie.Need-trees-after-requires Inv-loop μ-loop
+trees-after-requires c κs = (omega arith, omega arith)
+
+enum-known-left : tie.Need-enum-known-left Inv-loop μ-loop
+enum-known-left c = search needs
+
+enum-told : tie.Need-enum-told Inv-loop μ-loop
+enum-told c = search needs
+
+returns-2 : tie.Need-returns-2 Inv-loop μ-loop
+returns-2 c =
+    let called = c .before .before in
+    let at = called .before .before .before .before in
+    sym (pass-refused (at .before .before .args .nodes .now) _ (at .loop .i) (at .before .before .args .end) (called .before .node-at .ensures) (sym (c .enum-told .given .1) ∙ called .trees-after .ensures) (search needs)) ∙ at .loop .inv .2
+
+add-i : tie.Need-add-i Inv-loop μ-loop
+add-i c = search needs
+
+loop-less : tie.Need-loop-less Inv-loop μ-loop
+loop-less c = search needs
+
+loop-again : tie.Need-loop-again Inv-loop μ-loop
+loop-again c =
+    let called = c .before .before .before in
+    let at = called .before .before .before .before in
+    let p = pass-left (at .before .before .args .nodes .now) _ (at .loop .i) (at .before .before .args .end) _ (called .before .node-at .ensures) (sym (c .before .left .given .1) ∙ called .trees-after .ensures) (search needs) (called .before .before .if1 .left) in
+    (omega arith, omega (arith, p .0), p .1 ∙ at .loop .inv .2)
+
+returns-3 : tie.Need-returns-3 Inv-loop μ-loop
+returns-3 c = sym (pass-end (c .before .before .before .args .nodes .now) _ _ (c .before .before .before .args .end) (search needs)) ∙ c .before .loop .inv .2
+
+pub tree-allowed-spec : {M : Type 1} → statement M
+tree-allowed-spec =
+    tie.close
+    (tie.spec
+    Inv-loop
+    μ-loop
+    loop-holds
+    returns
+    node-at-requires
+    trees-after-requires
+    enum-known-left
+    enum-told
+    returns-2
+    add-i
+    loop-less
+    loop-again
+    returns-3)

@@ -1,0 +1,49 @@
+use mathlib.Core.Path.{sym, _∙_}
+use native.Mathlib.Omega.{arith}
+use borrow.Author.Tests.{not-true, not-false}
+use Rattle.tables.proofs.TreeLaws.{arity-le}
+use Rattle.loader.proofs.ExpressionLaws.{after-address}
+use borrow.Author.Needs.{needs}
+use Rattle.loader.proofs.expression.trees_after.Statement.{statement}
+use Rattle.loader.proofs.expression.trees_after.Tie as tie
+use Rattle.loader.proofs.expression.trees_after.Reads as reads
+use Rattle.loader.proofs.expression.trees_after.Lts as lts
+use Rattle.loader.proofs.allowed.node_allowed.Reads as node-allowed-reads
+use Rattle.tables.proofs.tree.arity.Reads as arity-reads
+
+sub-t4 : tie.Need-sub-t4
+sub-t4 c = search needs
+
+returns : tie.Need-returns
+returns c = after-address _ _ (c .if1 .taken)
+
+node-allowed-requires : tie.Need-node-allowed-requires
+node-allowed-requires c κs = search needs
+
+returns-2 : tie.Need-returns-2
+returns-2 c = rw (sym (c .before .node-allowed .ensures) ∙ not-true _ (c .if2 .taken))
+
+sub-t6 : tie.Need-sub-t6
+sub-t6 c = search needs
+
+arity-requires : tie.Need-arity-requires
+arity-requires c κs = search needs
+
+add-t8 : tie.Need-add-t8
+add-t8 c = omega (arith, arity-le (c .before .before .before .before .before .args .x .tag), c .arity .ensures)
+
+returns-3 : tie.Need-returns-3
+returns-3 c = rw (sym (c .before .before .node-allowed .ensures) ∙ not-false _ (c .before .if2 .left), c .arity .ensures)
+
+pub trees-after-spec : {M : Type 1} → statement M
+trees-after-spec =
+    tie.close
+    (tie.spec
+    sub-t4
+    returns
+    node-allowed-requires
+    returns-2
+    sub-t6
+    arity-requires
+    add-t8
+    returns-3)
