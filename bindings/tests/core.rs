@@ -66,7 +66,7 @@ fn sizes_of_rows() {
     sizes_in!("journal/src/entries.rt": ENTRY_WIDTH ENTRY_LIMIT);
     sizes_in!("call_reply/src/reply.rt": REPLY_WIDTH REPLY_LIMIT);
     sizes_in!("extern_call/src/rows.rt": RESOLVED_WIDTH ERROR_WIDTH);
-    sizes_in!("memory/src/lib.rt": REFERENCE_WIDTH);
+    sizes_in!("memory/src/batch.rt": REFERENCE_WIDTH);
     defined("REFERENCE_LIMIT", sizes::REFERENCE_LIMIT);
 }
 

@@ -99,11 +99,16 @@ fn access(input: String, tables: Tables, row: u64) -> Case {
 fn walk(input: String, nodes: Vec<u64>, count: u64) -> Case {
     let first = &nodes[..count as usize * tables::NODE];
     let expression = tree(first, |_, node| plain_leaf(node)).expect("one tree");
+    let add = |sum: u64, index: u64| sum.wrapping_add(index).wrapping_add(1);
     let ours = move || {
         let (nodes, mut walk) = (hidden(&nodes), Walk::new());
-        walk.memory_references(nodes, 0, count).map_or(0, |all| all.map(|reference| reference.index + 1).sum::<u64>())
+        let all = walk.memory_references(nodes, 0, count).expect("accepted");
+        all.fold(0, |sum, reference| add(sum, reference.index))
     };
-    let theirs = move || hidden(&expression).memory_references().map(|reference| reference.index + 1).sum::<u64>();
+    let theirs = move || {
+        let all = hidden(&expression).memory_references();
+        all.fold(0, |sum, reference| add(sum, reference.index))
+    };
     assert_eq!(ours(), theirs(), "{input}");
     Case {
         call: "references",
