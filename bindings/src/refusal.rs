@@ -50,8 +50,8 @@ macro_rules! refusals {
 
 refusals! {
     1 TableShape "a table is not whole rows, or has more rows than its limit",
-    2 WordNotAllowed "a word is not allowed where it stands, a range lies outside its table or is not exactly one \
-        tree, or the chosen row is absent or of another family",
+    2 WordNotAllowed "a word is not allowed where it stands, a range lies outside its table, or the chosen row is absent \
+        or of another family",
     3 NameTwice "two regions or two externs have one name",
     4 BufferSize "a lent buffer is too short, or the journal is not whole entries or too long",
     6 ExternNotFound "a CALL names an extern that is not declared",
