@@ -5,7 +5,7 @@ use mathlib.Core.List.{List}
 use mathlib.Core.Path.{_≡_, refl, sym, ap, _∙_}
 use native.Mathlib.Omega.{arith}
 use lib.Dec.{eqb, leb}
-use borrow.Author.Tests.{le-leb}
+use borrow.Author.Tests.{eqb-true, le-leb}
 use Rattle.tables.specs.First.{first, everyFrom, every}
 use Rattle.tables.specs.NodeTag as tag
 use Rattle.tables.specs.Refusal.{wordNotAllowed}
@@ -15,6 +15,7 @@ use Rattle.tables.specs.Outcome.{_>>_, need}
 use Rattle.tables.specs.declared.rows.Node.{Node}
 use Rattle.tables.proofs.FirstLaws.{first-hit, first-miss, first-end}
 use Rattle.tables.proofs.TreeLaws.{arity-le, trees-stop, trees-step, trees-end}
+use Rattle.loader.proofs.Loaded.{both}
 use Rattle.loader.specs.Shape.{wholeRows}
 use Rattle.loader.specs.Load.{loadNodesLook}
 use Rattle.loader.specs.Allowed.{nodeAllowed, nodesAllowedFrom, nodesAllowed}
@@ -26,6 +27,15 @@ use Rattle.loader.specs.declared.expression.TreesLeft.the-variants.{Left
 pub after-address : (x : Node) (trees : ℕ) → x .tag ≡ tag.address → Left (trees - 1) ≡ treesAfter x trees
 unfolding nodeAllowed arityOf
 after-address x trees e = let z : trees - 1 + 0 ≡ trees - 1 = omega arith in rw (e, z)
+
+-- an infix without words is allowed, and has two children
+pub after-infix : (x : Node) (trees : ℕ) → 0 < trees → (eqb (x .tag) tag.infixExpression && (eqb (x .first) 0 && eqb (x .second) 0)) ≡ true
+    → Left (trees + 1) ≡ treesAfter x trees
+unfolding nodeAllowed arityOf
+after-infix x trees h e =
+    let (t, unused) = both (eqb (x .tag) tag.infixExpression) (eqb (x .first) 0 && eqb (x .second) 0) e in
+    let z : trees - 1 + 2 ≡ trees + 1 = omega arith in
+    rw (eqb-true (x .tag) tag.infixExpression t, unused, z)
 
 -- what an answer says of the node
 after-left : (b : Bool) (k l : ℕ) → Left l ≡ cond b (Left k) Refused → (b ≡ true) × (l ≡ k)

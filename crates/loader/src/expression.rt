@@ -9,6 +9,7 @@ ghost use Rattle.loader.specs.Expression.{treesAfter, treesAllowed};
 use crate::allowed::node_allowed;
 use crate::allowed::nodes_allowed;
 use tables::node_tag::ADDRESS;
+use tables::node_tag::INFIX;
 use tables::rows::NODE_WIDTH;
 use tables::rows::Node;
 use tables::rows::node_at;
@@ -21,13 +22,16 @@ enum TreesLeft {
     Refused,
 }
 
-// An address, which has no children and any words, is passed first, for speed.
+// An address, which has any words and no children, and an infix, of which most expressions are made, are passed first, for speed.
 fn trees_after(x: Node, trees: usize) -> TreesLeft
     requires { ⌜ (0 < trees) × (trees ≤ nodeLimit) ⌝ }
     ensures { λ r. ⌜ r ≡ treesAfter x trees ⌝ }
 {
     if x.tag == ADDRESS {
         return TreesLeft::Left(trees - 1);
+    }
+    if (x.tag == INFIX) & ((x.first == 0) & (x.second == 0)) {
+        return TreesLeft::Left(trees + 1);
     }
     if !node_allowed(x) {
         return TreesLeft::Refused;

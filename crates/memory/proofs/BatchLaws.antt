@@ -50,12 +50,12 @@ module _ (nodes : List ℕ) (room place count : ℕ) (rows : List ℕ) where
     unfolding rowsWords
     left-end f = step ∙ (let z : count + 0 ≡ count = omega arith in rw (f, z))
 
-    -- a reference goes into the list's next row
-    pub left-turn : (r : MemoryReference) → s .found ≡ Reference r
-        → leftFrom nodes room place count rows ≡ leftFrom nodes room (s .place) (count + 1) (sets rows (count * referenceWidth) (referenceWords r))
+    -- a reference goes into the list's next row, whose first word is at
+    pub left-turn : (r : MemoryReference) (at : ℕ) → s .found ≡ Reference r → at ≡ count * referenceWidth
+        → leftFrom nodes room place count rows ≡ leftFrom nodes room (s .place) (count + 1) (sets rows at (referenceWords r))
     unfolding rowsWords
-    left-turn r f =
+    left-turn r at f w =
         let rest = batchOf nodes (s .place) (room - (count + 1)) in
         let a : count + suc (length (rest .references)) ≡ count + 1 + length (rest .references) = omega arith in
         let b : (count + 1) * referenceWidth ≡ suc (suc (count * referenceWidth)) = omega arith in
-        step ∙ rw (f, a, b)
+        step ∙ rw (f, a, b, w)

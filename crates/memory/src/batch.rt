@@ -1,7 +1,7 @@
 // The memory references of an expression by lists: as many steps of the walk as a lent list has room for.
 ghost use mathlib.Core.Path.{_≡_};
 ghost use mathlib.Core.Bool.{true};
-ghost use Prim.Native.Nat.{_+_, _*_, _≤_};
+ghost use Prim.Native.Nat.{_+_, _≤_};
 ghost use lib.ListN.{length};
 ghost use lib.Seq.{sets};
 ghost use Rattle.tables.specs.Tree.{oneTree};
@@ -20,12 +20,11 @@ pub struct Handed {
     pub place: usize,
 }
 
-// A reference's row, after `count` of them.
-fn put_reference(rows: &mut [u64], count: usize, reference: MemoryReference)
-    requires { ⌜ count * referenceWidth + referenceWidth ≤ length (now rows) ⌝ }
-    ensures { λ _. ⌜ now (rows .exit) ≡ sets (now (rows .entry)) (count * referenceWidth) (referenceWords reference) ⌝ }
+// A reference's row, from word `at` on.
+fn put_reference(rows: &mut [u64], at: usize, reference: MemoryReference)
+    requires { ⌜ at + referenceWidth ≤ length (now rows) ⌝ }
+    ensures { λ _. ⌜ now (rows .exit) ≡ sets (now (rows .entry)) at (referenceWords reference) ⌝ }
 {
-    let at = count * REFERENCE_WIDTH;
     rows[at] = reference.name;
     rows[at + 1] = reference.index;
 }
@@ -34,24 +33,24 @@ fn put_reference(rows: &mut [u64], count: usize, reference: MemoryReference)
 fn references_from(nodes: &[u64], place: usize, rows: &mut [u64]) -> Handed
     ensures { λ r. ⌜ handing r (now (rows .exit)) ≡ handOut (now (nodes .entry)) place (now (rows .entry)) ⌝ }
 {
-    let room = rows.len() / REFERENCE_WIDTH;
-    let mut count = 0;
+    let end = rows.len() / REFERENCE_WIDTH * REFERENCE_WIDTH;
+    let mut at = 0;
     let mut passed = place;
-    while count < room {
+    while at < end {
         let stepped = next_from(nodes, passed);
         let found = stepped.found;
         passed = stepped.place;
         let Next::Reference(reference) = found else {
             return Handed {
-                count,
+                count: at / REFERENCE_WIDTH,
                 place: passed,
             };
         };
-        put_reference(rows, count, reference);
-        count += 1;
+        put_reference(rows, at, reference);
+        at += REFERENCE_WIDTH;
     }
     Handed {
-        count,
+        count: at / REFERENCE_WIDTH,
         place: passed,
     }
 }

@@ -1,4 +1,4 @@
-use Prim.Native.Nat.{suc, _+_, _*_}
+use Prim.Native.Nat.{suc, _+_}
 use mathlib.Core.Path.{_≡_}
 use native.Mathlib.Omega.{arith}
 use lib.ListN.{length-set}
@@ -7,9 +7,6 @@ use Rattle.memory.proofs.batch.put_reference.Statement.{statement}
 use Rattle.memory.proofs.batch.put_reference.Tie as tie
 use Rattle.memory.proofs.batch.put_reference.Reads as reads
 use Rattle.memory.proofs.batch.put_reference.Lts as lts
-
-mul-at : tie.Need-mul-at
-mul-at c = search needs
 
 mul-rows : tie.Need-mul-rows
 mul-rows c = search needs
@@ -30,17 +27,9 @@ same-length : tie.Need-same-length
 same-length c = search needs
 
 returns : tie.Need-returns
-returns c = let e : c .args .count * 2 + 1 ≡ suc (c .args .count * 2) = omega arith in rw e
+returns c = let e : c .args .at + 1 ≡ suc (c .args .at) = omega arith in rw e
 
 pub put-reference-spec : {M : Type 1} → statement M
 put-reference-spec =
     tie.close
-    (tie.spec
-    mul-at
-    mul-rows
-    slice-write-rows
-    add-rows
-    mul-rows-2
-    slice-write-rows-2
-    same-length
-    returns)
+    (tie.spec mul-rows slice-write-rows add-rows mul-rows-2 slice-write-rows-2 same-length returns)
