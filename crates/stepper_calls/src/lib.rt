@@ -1,12 +1,12 @@
 // The public calls on the tables as the terminal holds them: one array, a room for each.
 use access_sets::access::AccessAnswer;
 use console::access::access;
-use console_session::back::back;
 use console::check::CheckAnswer;
 use console::check::check;
+use console::resolve::resolve;
+use console_session::back::back;
 use console_session::forward::forward;
 use console_session::open::open;
-use console::resolve::resolve;
 use extern_call::rows::ResolveAnswer;
 use journal::position::Position;
 use script::line::least;

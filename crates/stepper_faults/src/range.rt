@@ -2,11 +2,12 @@
 use crate::fault::Range;
 use crate::fault::Row;
 use crate::fault::Where;
+use loader::expression::expression_allowed;
 use stepper_tables::heading::Table;
 use stepper_tables::row::ROW_WORDS;
 use tables::family;
+use tables::rows::NODE_LIMIT;
 use tables::rows::NODE_WIDTH;
-use tables::tree::one_tree;
 use tables::tree::range_inside;
 
 // What a row asks for, where it lies outside its table; else the row.
@@ -15,6 +16,14 @@ fn outside(row: Row, range: Range) -> Where {
         return Where::Whole(row);
     }
     Where::Outside(row, range)
+}
+
+// Whether the rows are one tree, by the library's rule, of nodes whose words are all allowed.
+fn one_tree(nodes: &[u64], first: u64, count: u64) -> bool {
+    if nodes.len() / NODE_WIDTH > NODE_LIMIT {
+        return false;
+    }
+    expression_allowed(nodes, first, count)
 }
 
 // How many rows from `first` on, fewer than `count`, are one tree; 0 where none are.

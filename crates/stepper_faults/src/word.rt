@@ -45,7 +45,7 @@ fn row_allowed(
         Table::Regions => regions_allowed(row),
         Table::Externs => externs_allowed(row, parameters),
         Table::Parameters => parameters_allowed(row),
-        Table::Nodes => nodes_allowed(row),
+        Table::Nodes => nodes_allowed(row, 0, row.len() / NODE_WIDTH),
         Table::Arguments => arguments_allowed(row),
         Table::Instructions => instruction_allowed(row, nodes, arguments),
     }
