@@ -1,5 +1,6 @@
 // A program's rows as text in the manner of Quil.
 use crate::line::Line;
+use script::line::least;
 use stepper_tables::list::item;
 use stepper_tables::list::line_of;
 use stepper_tables::names::NAME_WORDS;
@@ -83,6 +84,11 @@ fn node_row(
         return node(line.with(b' '), source, names, node_at(nodes, row)).whole();
     }
     line
+}
+
+// A refused program's count may be any word: no more rows are shown than the table has.
+fn at_most(count: u64, rows: usize) -> u64 {
+    least(count as usize, rows) as u64
 }
 
 fn expression(
@@ -181,10 +187,14 @@ pub fn row_text(
     let family = x.family;
     let headed = mnemonic(line, family, x.operator);
     match family {
-        family::FRAME => expression(headed, source, names, nodes, x.first_name, x.first_index),
+        family::FRAME => {
+            let count = at_most(x.first_index, nodes.len() / NODE_WIDTH);
+            expression(headed, source, names, nodes, x.first_name, count)
+        }
         family::CALL => {
             let call = headed.with(b' ').name(source, names, x.first_name).whole();
-            argument_list(call, source, names, arguments, x.first_index, x.second_name)
+            let count = at_most(x.second_name, arguments.len() / ARGUMENT_WIDTH);
+            argument_list(call, source, names, arguments, x.first_index, count)
         }
         family::OTHER => headed,
         _ => operands(headed, source, names, x),
