@@ -104,7 +104,12 @@ fn numbers_of_refusals() {
         NoRule,
         ForeignPosition,
     ];
+    // A cause of more than a line is strings one after another in C.
+    let header: String = HEADER.split('"').filter(|part| !part.trim().is_empty() || !part.contains('\n')).collect();
     for refusal in refusals {
         stands(source!("tables/src/refusal.rt"), "REFUSAL", &refusal, refusal.number());
+        let name = constant(&format!("{refusal:?}"));
+        let told = format!("case CONSOLE_REFUSAL_{name}:\n        return {};\n", refusal.cause());
+        assert!(header.contains(&told), "{told}");
     }
 }
