@@ -3,10 +3,11 @@
  * A slice is a pointer and a length in 64-bit words; an empty one still needs a pointer that is
  * not null and is aligned to 8. A fixed array is a pointer, never null. Lent buffers must not
  * overlap. Rows are counted from 0.
- * TABLES is six slices, in the order regions, externs, parameters, nodes, arguments, instructions.
+ * CONSOLE_TABLES is six slices, in the order regions, externs, parameters, nodes, arguments, instructions.
  *
  * Each call returns 0 or the refusal's number. No call asks anything of the words it is lent.
- * Out-arrays are written only where stated; on any other answer they keep what they held. */
+ * Out-arrays and lists are written only where stated; every other word, and on any other answer
+ * all of them, keep what they held. */
 #ifndef CONSOLE_H
 #define CONSOLE_H
 

@@ -100,7 +100,7 @@ pub fn deep_trees(count: u64, nodes: u64) -> Vec<u64> {
     tables.nodes
 }
 
-/// A tree of 2,048 nodes, all but the last of its infix nodes on the left, every leaf an address.
+/// A prefix over 1,023 infix nodes, each but the first the left child of the one before; every leaf an address: 2,048 nodes.
 pub fn left_tree() -> Vec<u64> {
     let leaves = (0..1024).flat_map(|i| [0, region(i), i]);
     [5, 0, 0].into_iter().chain([2, 0, 0].repeat(1023)).chain(leaves).collect()

@@ -36,7 +36,7 @@ referencing answer rows = record { answer = answer; rows = rows }
 abbrev pub handedAnswer : Handing → Referencing
 handedAnswer h = referencing (A.Handed (h .handed)) (h .rows)
 
--- "1, 2, no other refusal"; a refusal writes nothing
+-- 1, 2 as in the walk; a refusal writes nothing
 unfoldable pub referencesList : List ℕ → ℕ → ℕ → ℕ → List ℕ → Referencing
 referencesList nodes first count place rows =
     after (loadNodesLook nodes first count) (λ number. referencing (A.Refused number) rows)

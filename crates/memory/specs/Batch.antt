@@ -1,4 +1,4 @@
--- The walk by lists: "hands out the next references of an expression into a lent list, as many as fit, and the place to go on from".
+-- The walk by lists: the next references of an expression go into a lent list, as many as fit, with the place to go on from.
 use Prim.Native.Nat.{ℕ, zero, suc, _/_}
 use mathlib.Core.List.{List, [], _∷_}
 use lib.ListN.{length}
@@ -19,7 +19,7 @@ abbrev pub stepThen : Next → ℕ → (ℕ → Batch) → Batch
 stepThen (Reference r) place rest = record { references = r ∷ rest place .references; place = rest place .place }
 stepThen End place rest = record { references = []; place = place }
 
--- "as many as fit": as many steps of the walk as there is room for, up to the first end
+-- as many steps of the walk as there is room for, up to the first end
 unfoldable pub batchOf : List ℕ → ℕ → ℕ → Batch
 batchOf nodes place zero = record { references = []; place = place }
 batchOf nodes place (suc room) = stepThen (nextOf nodes place .found) (nextOf nodes place .place) (λ p. batchOf nodes p room)
@@ -28,7 +28,7 @@ batchOf nodes place (suc room) = stepThen (nextOf nodes place .found) (nextOf no
 unfoldable pub batchIn : List ℕ → ℕ → ℕ → ℕ → ℕ → Batch
 batchIn nodes i n place room = batchOf (nodesIn nodes i n) place room
 
--- "rows of name and index, two words each"
+-- a row is name and index, two words
 abbrev pub referenceWidth : ℕ
 referenceWidth = 2
 
@@ -40,7 +40,7 @@ unfoldable pub rowsWords : List MemoryReference → List ℕ
 rowsWords [] = []
 rowsWords (r ∷ rs) = r .name ∷ r .index ∷ rowsWords rs
 
--- how many rows a list has room for: "a list of no room hands out none"
+-- how many rows a list has room for; a list of no room gets none
 abbrev pub roomOf : List ℕ → ℕ
 roomOf rows = length rows / referenceWidth
 

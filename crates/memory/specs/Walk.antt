@@ -40,5 +40,5 @@ pub record Batches (nodes : List ℕ) (i n : ℕ) : Type 0 where
   -- from place 0 a list gets the tree's first references, as many as it has room for: none is skipped, repeated or left out
   pub start : (room : ℕ) → batchIn nodes i n 0 room .references ≡ take room (references nodes i n)
   pub all : (room : ℕ) → length (references nodes i n) ≤ room → batchIn nodes i n 0 room .references ≡ references nodes i n
-  -- "the place to go on from": two lists, one after the other, get what one list with the room of both gets
+  -- the place to go on from: two lists, one after the other, get what one list with the room of both gets
   pub goOn : (place a b : ℕ) → batchIn nodes i n place (a + b) ≡ goingOn (batchIn nodes i n place a) (λ p. batchIn nodes i n p b)

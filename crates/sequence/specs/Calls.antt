@@ -42,7 +42,7 @@ opened t memory journal = record { memory = openTables t memory (length journal)
 abbrev pub Called : Type 0
 Called = Leaves Answer (List ℕ)
 
--- `forwardTables` and `backTables` are the right sides of the promises of `forward` and `back` in console/src, on which console_c's `console_forward` and `console_back` rest.
+-- `forwardTables` and `backTables` are the right sides of the promises of `forward` and `back` in console_session/src, on which console_c's `console_forward` and `console_back` rest.
 -- Back is lent the journal to read alone.
 abbrev pub called : Tables → Call → Session → Called
 called t (forward reply) s = let l = forwardTables t (s .memory) (s .journal) (s .position) reply in leaves (ofStep (l .answer)) (l .memory) (l .journal)
