@@ -70,11 +70,12 @@ fn start(path: &[u8], only_check: bool, desk: Desk) {
     );
 }
 
-// The second argument, for `check FILE`, and the third, if there is one.
+// The second argument, for `check FILE`, with nothing cut, and the third, if there is one.
 fn check_file(desk: Desk) {
     let mut path = io::buffer();
     let length = os::arg(2, &mut path);
-    start(&path[..length], true, desk);
+    let view = desk.view;
+    start(&path[..length], true, desk.viewed(view.with_all()));
     let other = os::arg(3, &mut path);
     if other > 0 {
         start(&path[..other], false, desk);

@@ -1,4 +1,5 @@
 // Which regions a row names: by an operand, an argument, or an address of its expression.
+use crate::quil::at_most;
 use operands::names::names_first;
 use operands::names::names_second;
 use script::line::least;
@@ -44,11 +45,17 @@ fn operands_name(x: Instruction, name: u64) -> bool {
 fn names(nodes: &[u64], arguments: &[u64], x: Instruction, name: u64) -> bool {
     let family = x.family;
     match family {
-        family::FRAME => rows_name(nodes, x.first_name, x.first_index, node_tag::ADDRESS, name),
+        family::FRAME => rows_name(
+            nodes,
+            x.first_name,
+            at_most(x.first_index, nodes.len() / NODE_WIDTH),
+            node_tag::ADDRESS,
+            name,
+        ),
         family::CALL => rows_name(
             arguments,
             x.first_index,
-            x.second_name,
+            at_most(x.second_name, arguments.len() / NODE_WIDTH),
             argument_form::REFERENCE,
             name,
         ),

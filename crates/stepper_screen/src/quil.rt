@@ -86,8 +86,8 @@ fn node_row(
     line
 }
 
-// A refused program's count may be any word: no more rows are shown than the table has.
-fn at_most(count: u64, rows: usize) -> u64 {
+// A refused program's count may be any word: no more rows are looked at than the table has.
+pub fn at_most(count: u64, rows: usize) -> u64 {
     least(count as usize, rows) as u64
 }
 

@@ -115,6 +115,25 @@ fn headed(line: Line, source: &[u8], names: &[u64; NAME_WORDS], region: Region) 
         .whole()
 }
 
+// The changed cells alone, without the region's kind: with the short mark where all of them then fit, or where not even one fits beside the long one.
+fn tight_line(
+    line: Line,
+    source: &[u8],
+    names: &[u64; NAME_WORDS],
+    name: u64,
+    before: &[u64],
+    after: &[u64],
+    span: Span,
+) -> Line {
+    let head = line.text(b"  ").name(source, names, name).whole();
+    let tight = cells(head.tight(), before, after, span, true);
+    let marked = cells(head, before, after, span, true);
+    if tight.is_whole() | (marked.kept == head.kept) {
+        return tight.cut();
+    }
+    marked.cut()
+}
+
 // A line too long, with a long name shortened. Where that is not enough, of a region that changed the changed cells alone, and without its kind if need be.
 fn cut_line(
     source: &[u8],
@@ -136,8 +155,7 @@ fn cut_line(
     if only.is_whole() {
         return only.cut();
     }
-    let tight = line.tight().text(b"  ").name(source, names, region.name);
-    cells(tight.whole(), before, after, span, true).cut()
+    tight_line(line, source, names, region.name, before, after, span)
 }
 
 fn region_line(
