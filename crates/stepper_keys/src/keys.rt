@@ -1,5 +1,7 @@
 // The keys, one a line.
+use crate::load::absent;
 use crate::load::load;
+use crate::load::read_bytes;
 use crate::steps::back_key;
 use crate::steps::check_key;
 use crate::steps::forward_key;
@@ -22,6 +24,7 @@ use stepper_screen::changes::copy;
 use stepper_screen::help::help;
 use stepper_screen::help::no_such_key;
 use stepper_screen::page::page;
+use stepper_screen::print::text;
 use stepper_tables::file::TABLE_WORDS;
 use stepper_tables::names::NAME_WORDS;
 
@@ -110,7 +113,12 @@ pub fn open_file(
     journal: &mut [u64; JOURNAL_WORDS],
     desk: Desk,
 ) -> Desk {
-    let loaded = load(path, buffer, names, tables, desk);
+    let count = read_bytes(path, buffer);
+    if count == 0 {
+        absent(path);
+        return desk;
+    }
+    let loaded = load(path, buffer, count, names, tables, desk);
     if !loaded.has_file() {
         return loaded;
     }
@@ -215,6 +223,36 @@ fn key_of(line: &[u8]) -> Key {
     Key::Unknown
 }
 
+// `o FILE`. A name with a blank in it would open another file.
+fn open_key(
+    line: &[u8],
+    buffer: &mut [u8; TEXT_BYTES],
+    names: &mut [u64; NAME_WORDS],
+    tables: &mut [u64; TABLE_WORDS],
+    before: &mut [u64; MEMORY_WORDS],
+    memory: &mut [u64; MEMORY_WORDS],
+    journal: &mut [u64; JOURNAL_WORDS],
+    desk: Desk,
+) -> Desk {
+    let first = word_at(line, 0, line.len());
+    let path = word_at(line, first.end, line.len());
+    let more = word_at(line, path.end, line.len());
+    if more.start < more.end {
+        text(b"o takes one file, and its name has no blanks\n");
+        return desk;
+    }
+    open_file(
+        part(line, path.start, path.end),
+        buffer,
+        names,
+        tables,
+        before,
+        memory,
+        journal,
+        desk,
+    )
+}
+
 fn act(
     line: &[u8],
     buffer: &mut [u8; TEXT_BYTES],
@@ -227,18 +265,7 @@ fn act(
 ) -> Desk {
     let key = key_of(line);
     if let Key::Open = key {
-        let first = word_at(line, 0, line.len());
-        let path = word_at(line, first.end, line.len());
-        return open_file(
-            part(line, path.start, path.end),
-            buffer,
-            names,
-            tables,
-            before,
-            memory,
-            journal,
-            desk,
-        );
+        return open_key(line, buffer, names, tables, before, memory, journal, desk);
     }
     press(
         key,

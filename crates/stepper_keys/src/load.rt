@@ -76,8 +76,8 @@ fn read_tables(
     }
 }
 
-// Reads the file's bytes; how many, or the buffer's length where there are more than it holds.
-fn read_bytes(path: &[u8], buffer: &mut [u8; TEXT_BYTES]) -> usize {
+// Reads the file's bytes; how many: none where it cannot be read, the buffer's length where there are more than it holds.
+pub fn read_bytes(path: &[u8], buffer: &mut [u8; TEXT_BYTES]) -> usize {
     let file = os::open_read(path);
     if file < 0 {
         return 0;
@@ -87,31 +87,30 @@ fn read_bytes(path: &[u8], buffer: &mut [u8; TEXT_BYTES]) -> usize {
     count
 }
 
-// A file that is not read: the desk has none.
-fn unread(path: &[u8], why: &[u8], desk: Desk) -> Desk {
+// A file that is not there: the desk stays as it is.
+pub fn absent(path: &[u8]) {
     text(path);
-    text(why);
+    text(b": there is no such file, or it cannot be read or is empty\n");
+}
+
+// A file that is cut off: the desk has none.
+fn too_long(path: &[u8], desk: Desk) -> Desk {
+    text(path);
+    text(b": longer than 65,535 bytes\n");
     desk.stated(State::NoFile)
 }
 
-// Reads a file into text and tables.
+// So many bytes of a file into text and tables.
 pub fn load(
     path: &[u8],
-    buffer: &mut [u8; TEXT_BYTES],
+    buffer: &[u8; TEXT_BYTES],
+    count: usize,
     names: &mut [u64; NAME_WORDS],
     tables: &mut [u64; TABLE_WORDS],
     desk: Desk,
 ) -> Desk {
-    let count = read_bytes(path, buffer);
-    if count == 0 {
-        return unread(
-            path,
-            b": there is no such file, or it cannot be read or is empty\n",
-            desk,
-        );
-    }
     if count >= TEXT_BYTES {
-        return unread(path, b": longer than 65,535 bytes\n", desk);
+        return too_long(path, desk);
     }
     let mut next = desk;
     next.text = count;

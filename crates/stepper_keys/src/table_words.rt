@@ -1,6 +1,8 @@
 // The six tables as words, for a host that takes them: each heading, then a row a line, in decimal.
 ghost use Prim.Native.Nat.{_<_};
+use crate::load::absent;
 use crate::load::load;
+use crate::load::read_bytes;
 use stepper_calls::table;
 use stepper_desk::state::Desk;
 use stepper_desk::state::TEXT_BYTES;
@@ -50,7 +52,19 @@ pub fn table_words(desk: Desk) {
     let mut buffer = [0; TEXT_BYTES];
     let mut names = [0; NAME_WORDS];
     let mut tables = [0; TABLE_WORDS];
-    let loaded = load(&path[..length], &mut buffer, &mut names, &mut tables, desk);
+    let count = read_bytes(&path[..length], &mut buffer);
+    if count == 0 {
+        absent(&path[..length]);
+        return;
+    }
+    let loaded = load(
+        &path[..length],
+        &buffer,
+        count,
+        &mut names,
+        &mut tables,
+        desk,
+    );
     let lengths = loaded.lengths;
     if loaded.has_file() {
         table_rows(&tables, Table::Regions, lengths);
