@@ -13,7 +13,8 @@
 //! The feature `std`, on by default, adds `Program`, and `Error` to what calls refuse with; without it the crate needs
 //! `core` alone. Nothing but `Program` allocates.
 //!
-//! `docs/USING.md` of the repository has the buffers to lend, the orders of refusals and what is promised;
+//! `docs/USING.md` of the repository has the buffers to lend and what is promised, `docs/REFUSALS.md` the orders of
+//! refusals;
 //! `examples/step.rs` is a whole session.
 #![no_std]
 #![deny(missing_docs, unsafe_code)]
