@@ -17,7 +17,7 @@ pub fn help() {
         h        this help\n  \
         q        quit\n\
         A reply's row is: argument, offset, value. An empty line ends the reply.\n\
-        A change stands beside its cell: old -> new. What is cut off is marked ..\n",
+        A change stands beside its cell: old -> new. After .. the key m shows the rest.\n",
     );
 }
 

@@ -23,12 +23,12 @@ const MARK: [u8; 17] = *b" .. (m shows all)";
 // The column up to which items are kept, so that the mark fits.
 const LIMIT: usize = COLUMNS - 17;
 
-// For a line that has no room for the mark.
-const SHORT_MARK: [u8; 3] = *b" ..";
+// For a line that has no room for the mark's words.
+const SHORT_MARK: [u8; 7] = *b" .. (m)";
 
-const TIGHT_LIMIT: usize = COLUMNS - 3;
+const TIGHT_LIMIT: usize = COLUMNS - 7;
 
-// A name that is longer is shortened to this, so that one change always fits: its name, an index of four digits and two REAL values of 24 bytes.
+// A name that is longer is shortened to this, so that one change always fits before the short mark: its name, an index of four digits and two REAL values of 24 bytes.
 const LONG_NAME: usize = 14;
 
 // What a shortened name keeps at either end.
@@ -36,13 +36,14 @@ const NAME_END: usize = 6;
 
 const HALF: u64 = 0x8000_0000_0000_0000;
 
-// The bytes so far, how many of them are whole items, up to which column items are kept, and whether long names are shortened.
+// The bytes so far, how many of them are whole items, up to which column items are kept, whether long names are shortened, and whether the next item is joined to what stands before it.
 pub struct Line {
     pub bytes: [u8; COLUMNS],
     pub length: usize,
     pub kept: usize,
     pub limit: usize,
     pub short: bool,
+    pub joined: bool,
     pub view: View,
 }
 
@@ -54,6 +55,7 @@ impl Line {
             kept: 0,
             limit: LIMIT,
             short: false,
+            joined: false,
             view,
         }
     }
@@ -65,11 +67,28 @@ impl Line {
         next
     }
 
-    // For a line that did not fit even so: the mark gives way to what it would cut off.
+    // Where the mark's words would cost an item.
     pub fn tight(self) -> Line {
         let mut next = self;
         next.limit = TIGHT_LIMIT;
         next
+    }
+
+    // The next item follows at once.
+    pub fn join(self) -> Line {
+        let mut next = self;
+        next.joined = true;
+        next
+    }
+
+    // Before an item.
+    pub fn gap(self) -> Line {
+        let mut next = self;
+        if self.joined {
+            next.joined = false;
+            return next;
+        }
+        self.text(b"  ")
     }
 
     // Writes a full line, which then goes on with the byte.

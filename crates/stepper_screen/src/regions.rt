@@ -85,7 +85,7 @@ fn cell(
     if only_changed & !differs {
         return line;
     }
-    let numbered = line.text(b"  [").number(index).text(b"] ");
+    let numbered = line.gap().with(b'[').number(index).text(b"] ");
     let changed = if differs {
         numbered.value(old.kind, old.word).text(b" -> ")
     } else {
@@ -115,7 +115,7 @@ fn headed(line: Line, source: &[u8], names: &[u64; NAME_WORDS], region: Region) 
         .whole()
 }
 
-// The changed cells alone, without the region's kind: with the short mark where all of them then fit, or where not even one fits beside the long one.
+// The changed cells alone, the first written as Quil writes it, from the first column on; with the short mark, where the other would cost a cell.
 fn tight_line(
     line: Line,
     source: &[u8],
@@ -125,16 +125,16 @@ fn tight_line(
     after: &[u64],
     span: Span,
 ) -> Line {
-    let head = line.text(b"  ").name(source, names, name).whole();
-    let tight = cells(head.tight(), before, after, span, true);
+    let head = line.name(source, names, name).whole().join();
     let marked = cells(head, before, after, span, true);
-    if tight.is_whole() | (marked.kept == head.kept) {
+    let tight = cells(head.tight(), before, after, span, true);
+    if marked.kept < tight.kept {
         return tight.cut();
     }
     marked.cut()
 }
 
-// A line too long, with a long name shortened. Where that is not enough, of a region that changed the changed cells alone, and without its kind if need be.
+// A line too long, with a long name shortened. Where that is not enough, of a region that changed the changed cells alone, and without its kind and indentation if need be.
 fn cut_line(
     source: &[u8],
     names: &[u64; NAME_WORDS],
