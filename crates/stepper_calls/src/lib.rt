@@ -1,4 +1,4 @@
-// The public calls on the tables as the terminal holds them: one array, a room for each.
+// The public calls on the tables as the terminal holds them.
 use access_sets::access::AccessAnswer;
 use console::access::access;
 use console::check::CheckAnswer;
@@ -9,27 +9,11 @@ use console_session::forward::forward;
 use console_session::open::open;
 use extern_call::rows::ResolveAnswer;
 use journal::position::Position;
-use script::line::least;
 use session::answer::OpenAnswer;
 use session::answer::StepAnswer;
-use stepper_tables::file::ROOM;
 use stepper_tables::file::TABLES;
-use stepper_tables::heading::Table;
-
-// The words of one of the six tables.
-pub fn table(tables: &[u64], which: Table, lengths: [usize; TABLES]) -> &[u64] {
-    let number = which.number();
-    let first = least(number * ROOM, tables.len());
-    let room = least(ROOM, tables.len() - first);
-    let end = first + least(lengths[number], room);
-    &tables[first..end]
-}
-
-// The first words, as many as there are.
-pub fn front(words: &[u64], length: usize) -> &[u64] {
-    let end = least(length, words.len());
-    &words[0..end]
-}
+use stepper_tables::held::table;
+use stepper_words::heading::Table;
 
 pub fn check_tables(tables: &[u64], lengths: [usize; TABLES]) -> CheckAnswer {
     check(

@@ -1,7 +1,8 @@
-// What the console in a terminal works on: its state, the screen, lines from the keyboard, replies, and more about a row.
-pub mod about;
-pub mod explain;
+// What the console in a terminal works on: its state, lines and keys typed, a file read into the tables, the current row.
+pub mod current;
 pub mod input;
-pub mod reply;
-pub mod screen;
+pub mod key;
+pub mod load;
 pub mod state;
+pub mod table_words;
+pub mod trouble;

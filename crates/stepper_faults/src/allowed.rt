@@ -1,5 +1,5 @@
 // The words that a place of a row allows.
-use stepper_tables::place::Place;
+use stepper_words::place::Place;
 use tables::argument_form;
 use tables::family;
 use tables::node_tag;

@@ -1,5 +1,5 @@
 // Where a refusal 1, 2 or 3 lies. Rows and columns count from 0.
-use stepper_tables::heading::Table;
+use stepper_words::heading::Table;
 
 // A row, and where its words begin in its table.
 pub struct Row {

@@ -2,7 +2,7 @@
 ghost use Prim.Native.Nat.{_<_};
 use crate::fault::Where;
 use crate::row::next_row;
-use stepper_tables::heading::Table;
+use stepper_words::heading::Table;
 use tables::lookup::Found;
 use tables::lookup::lookup_extern;
 use tables::lookup::lookup_region;

@@ -1,8 +1,8 @@
 // A table by its rows.
 ghost use Prim.Native.Nat.{_<_, _≤_};
 use script::line::least;
-use stepper_tables::names::word_of;
-use stepper_tables::row::ROW_WORDS;
+use stepper_words::names::word_of;
+use stepper_words::place::ROW_WORDS;
 
 // The words of the row that begins at `at`, as many as there are.
 pub fn row_from(words: &[u64], at: usize, width: usize) -> &[u64] {

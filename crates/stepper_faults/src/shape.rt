@@ -2,7 +2,7 @@
 ghost use Prim.Native.Nat.{_<_};
 use crate::fault::Where;
 use loader::shape::whole_rows;
-use stepper_tables::heading::Table;
+use stepper_words::heading::Table;
 use tables::rows::ARGUMENT_LIMIT;
 use tables::rows::ARGUMENT_WIDTH;
 use tables::rows::EXTERN_LIMIT;

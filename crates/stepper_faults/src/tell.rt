@@ -12,17 +12,17 @@ use stepper_screen::print::line;
 use stepper_screen::print::number;
 use stepper_screen::print::text;
 use stepper_screen::view::View;
-use stepper_tables::heading::HEADINGS;
-use stepper_tables::heading::Table;
-use stepper_tables::list::item;
-use stepper_tables::list::line_of;
-use stepper_tables::names::NAME_WORDS;
-use stepper_tables::names::place_of;
-use stepper_tables::names::word_of;
-use stepper_tables::place;
-use stepper_tables::row::ROW_WORDS;
-use stepper_tables::vocabulary::MNEMONICS;
-use stepper_tables::vocabulary::NODES;
+use stepper_words::heading::HEADINGS;
+use stepper_words::heading::Table;
+use stepper_words::list::item;
+use stepper_words::list::line_of;
+use stepper_words::names::NAME_WORDS;
+use stepper_words::names::place_of;
+use stepper_words::names::word_of;
+use stepper_words::place;
+use stepper_words::place::ROW_WORDS;
+use stepper_words::vocabulary::MNEMONICS;
+use stepper_words::vocabulary::NODES;
 
 // What is shown of a longer name.
 const NAME_BYTES: usize = 24;

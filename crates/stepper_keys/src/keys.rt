@@ -1,106 +1,33 @@
 // The keys, one a line.
-use crate::load::absent;
-use crate::load::load;
-use crate::load::read_bytes;
+use crate::about::about;
 use crate::steps::back_key;
 use crate::steps::check_key;
 use crate::steps::forward_key;
-use crate::steps::no_file;
 use crate::steps::reset;
-use crate::steps::tell_unchanged;
-use script::line::byte_at;
 use script::line::part;
 use script::line::word_at;
-use stepper_desk::about::about;
+use stepper_cells::changes::copy;
+use stepper_cells::changes::tell_unchanged;
+use stepper_cells::screen::show;
 use stepper_desk::input::LINE;
 use stepper_desk::input::ask;
 use stepper_desk::input::typed_line;
-use stepper_desk::screen::screen;
+use stepper_desk::key::Key;
+use stepper_desk::key::key_of;
+use stepper_desk::key::no_file;
+use stepper_desk::load::absent;
+use stepper_desk::load::load;
+use stepper_desk::load::read_bytes;
 use stepper_desk::state::Desk;
 use stepper_desk::state::JOURNAL_WORDS;
 use stepper_desk::state::MEMORY_WORDS;
 use stepper_desk::state::TEXT_BYTES;
-use stepper_screen::changes::copy;
 use stepper_screen::help::help;
 use stepper_screen::help::no_such_key;
 use stepper_screen::page::page;
 use stepper_screen::print::text;
 use stepper_tables::file::TABLE_WORDS;
-use stepper_tables::names::NAME_WORDS;
-
-// What a key asks for. The empty line is forward.
-enum Key {
-    Forward,
-    Back,
-    Reset,
-    About,
-    Check,
-    Bits,
-    More,
-    Open,
-    Refusals,
-    Help,
-    Quit,
-    Unknown,
-}
-
-impl Key {
-    fn steps(self) -> bool {
-        match self {
-            Key::Forward => true,
-            Key::Back => true,
-            Key::Reset => true,
-            _ => false,
-        }
-    }
-
-    // Whether the screen is shown after it.
-    fn shows(self) -> bool {
-        match self {
-            Key::Bits => true,
-            Key::More => true,
-            Key::Open => true,
-            _ => self.steps(),
-        }
-    }
-}
-
-fn key_by(byte: u8) -> Key {
-    match byte {
-        b'b' => Key::Back,
-        b'r' => Key::Reset,
-        b'a' => Key::About,
-        b'c' => Key::Check,
-        b'x' => Key::Bits,
-        b'm' => Key::More,
-        b'o' => Key::Open,
-        b'p' => Key::Refusals,
-        b'h' => Key::Help,
-        b'q' => Key::Quit,
-        _ => Key::Unknown,
-    }
-}
-
-// The screen of the desk's file.
-pub fn show(
-    buffer: &[u8; TEXT_BYTES],
-    names: &[u64; NAME_WORDS],
-    tables: &[u64; TABLE_WORDS],
-    before: &[u64; MEMORY_WORDS],
-    memory: &[u64; MEMORY_WORDS],
-    desk: Desk,
-) {
-    if desk.has_file() {
-        screen(
-            part(buffer, 0, desk.text),
-            names,
-            tables,
-            before,
-            memory,
-            desk,
-        );
-    }
-}
+use stepper_words::names::NAME_WORDS;
 
 // Reads a file and opens its program.
 pub fn open_file(
@@ -209,18 +136,6 @@ fn press(
     let next = step_key(key, source, names, tables, memory, journal, desk);
     tell_unchanged(before, memory, desk, next);
     next
-}
-
-// The line's key: its first word, where that is one byte.
-fn key_of(line: &[u8]) -> Key {
-    let word = word_at(line, 0, line.len());
-    if word.start >= word.end {
-        return Key::Forward;
-    }
-    if word.end == std::num::wrapping_add_usize(word.start, 1) {
-        return key_by(byte_at(line, word.start));
-    }
-    Key::Unknown
 }
 
 // `o FILE`. A name with a blank in it would open another file.

@@ -1,23 +1,23 @@
 // The program: `FILE` steps it, `check FILE` tells its verdict, `check FILE OTHER` that and then steps the other, `tables FILE` prints its six tables as words, `refusals` the page of refusals.
 use crate::keys::open_file;
-use crate::keys::show;
 use crate::keys::turns;
-use crate::table_words::table_words;
 use libc::STDIN_FILENO;
 use libc::STDOUT_FILENO;
 use script::line::same;
+use stepper_cells::screen::show;
 use stepper_desk::state::Desk;
 use stepper_desk::state::JOURNAL_WORDS;
 use stepper_desk::state::MEMORY_WORDS;
 use stepper_desk::state::State;
 use stepper_desk::state::TEXT_BYTES;
 use stepper_desk::state::new_desk;
+use stepper_desk::table_words::table_words;
 use stepper_screen::help::help;
 use stepper_screen::page::page;
 use stepper_screen::print::number;
 use stepper_screen::print::text;
 use stepper_tables::file::TABLE_WORDS;
-use stepper_tables::names::NAME_WORDS;
+use stepper_words::names::NAME_WORDS;
 
 // The last line tells the verdict to the script that started the program.
 fn verdict(state: State) {

@@ -1,38 +1,37 @@
 // What the keys do to the session: a file read, open, forward, back.
+use crate::explain::explain_open;
+use crate::explain::show_call;
 use console::check::CheckAnswer;
 use journal::position::Position;
 use script::line::least;
 use session::answer::OpenAnswer;
 use session::answer::StepAnswer;
 use stepper_calls::check_tables;
-use stepper_calls::front;
 use stepper_calls::open_tables;
 use stepper_calls::step_back;
 use stepper_calls::step_forward;
-use stepper_calls::table;
-use stepper_desk::explain::RESOLVE_WORDS;
-use stepper_desk::explain::explain_open;
-use stepper_desk::explain::is_call;
-use stepper_desk::explain::show_call;
-use stepper_desk::explain::this_row;
-use stepper_desk::reply::REPLY_WORDS;
-use stepper_desk::reply::Reply;
-use stepper_desk::reply::ask_reply;
+use stepper_desk::current::is_call;
+use stepper_desk::current::this_row;
+use stepper_desk::key::is_open;
+use stepper_desk::key::no_file;
+use stepper_desk::load::plant_lent;
 use stepper_desk::state::Desk;
 use stepper_desk::state::JOURNAL_WORDS;
 use stepper_desk::state::MEMORY_WORDS;
 use stepper_desk::state::State;
-use stepper_screen::changes::changed;
-use stepper_screen::errors::type_error;
-use stepper_screen::print::style;
+use stepper_reply::errors::RESOLVE_WORDS;
+use stepper_reply::errors::type_error;
+use stepper_reply::reply::REPLY_WORDS;
+use stepper_reply::reply::Reply;
+use stepper_reply::reply::ask_reply;
 use stepper_screen::print::text;
 use stepper_screen::refusal::refused;
 use stepper_screen::view::View;
 use stepper_tables::file::TABLE_WORDS;
-use stepper_tables::heading::Table;
-use stepper_tables::names::NAME_WORDS;
-use stepper_tables::plant::plant;
-use tables::cells::CELL_LIMIT;
+use stepper_tables::held::front;
+use stepper_tables::held::table;
+use stepper_words::heading::Table;
+use stepper_words::names::NAME_WORDS;
 use tables::refusal::TYPE_ERROR;
 
 // What open answered, in words.
@@ -75,32 +74,6 @@ fn open_lent(
     desk.stated(state).placed(Position::first())
 }
 
-// What the file has of a foreign writer.
-fn plant_lent(
-    source: &[u8],
-    names: &mut [u64; NAME_WORDS],
-    desk: Desk,
-    memory: &mut [u64],
-    journal: &mut [u64],
-) -> Desk {
-    let words = least(desk.memory, memory.len());
-    let entries = least(desk.journal, journal.len());
-    let view = desk.view;
-    let position = plant(
-        source,
-        names,
-        view.names,
-        &mut memory[0..words],
-        &mut journal[0..entries],
-        desk.position,
-    );
-    desk.placed(position)
-}
-
-pub fn no_file() {
-    text(b"no file is open: o FILE opens one\n");
-}
-
 // Opens the program that was read.
 pub fn reset(
     source: &[u8],
@@ -130,32 +103,6 @@ fn stepped(answer: StepAnswer, view: View) -> Position {
             position
         }
     }
-}
-
-// A step that left the cells as they were.
-pub fn tell_unchanged(before: &[u64], memory: &[u64], old: Desk, new: Desk) {
-    let first = old.position;
-    let last = new.position;
-    let stepped = first.done != last.done;
-    if stepped & !changed(before, memory, 0, CELL_LIMIT as u64) {
-        text(b"no cell changed\n");
-    }
-}
-
-// Keys that step need an opened program.
-fn is_open(desk: Desk) -> bool {
-    if desk.is_opened() {
-        return true;
-    }
-    if !desk.has_file() {
-        no_file();
-        return false;
-    }
-    let view = desk.view;
-    style(view, b"31");
-    text(b"the program is turned down, so there is no step: o FILE opens another\n");
-    style(view, b"0");
-    false
 }
 
 // The reply where the current row is a CALL.

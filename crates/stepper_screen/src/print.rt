@@ -1,7 +1,7 @@
 // Pieces of output that no width cuts.
 use crate::view::View;
 use libc::STDOUT_FILENO;
-use stepper_tables::list::line_of;
+use stepper_words::list::line_of;
 
 pub fn text(bytes: &[u8]) {
     io::write_all(STDOUT_FILENO, bytes);

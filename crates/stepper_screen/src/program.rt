@@ -6,7 +6,7 @@ use crate::print::text;
 use crate::quil::row_text;
 use crate::view::View;
 use script::line::least;
-use stepper_tables::names::NAME_WORDS;
+use stepper_words::names::NAME_WORDS;
 use tables::rows::INSTRUCTION_WIDTH;
 use tables::rows::instruction_at;
 

@@ -1,11 +1,11 @@
 // A program's rows as text in the manner of Quil.
 use crate::line::Line;
 use script::line::least;
-use stepper_tables::list::item;
-use stepper_tables::list::line_of;
-use stepper_tables::names::NAME_WORDS;
-use stepper_tables::vocabulary::MNEMONICS;
-use stepper_tables::vocabulary::NODES;
+use stepper_words::list::item;
+use stepper_words::list::line_of;
+use stepper_words::names::NAME_WORDS;
+use stepper_words::vocabulary::MNEMONICS;
+use stepper_words::vocabulary::NODES;
 use tables::argument_form;
 use tables::family;
 use tables::node_tag;

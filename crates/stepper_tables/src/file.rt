@@ -1,11 +1,6 @@
 // A file into the six tables, line by line.
 ghost use Prim.Native.Nat.{_≤_};
-use crate::heading::Heading;
-use crate::heading::Table;
-use crate::heading::heading_of;
-use crate::names::NAME_WORDS;
 use crate::row::Outcome;
-use crate::row::ROW_WORDS;
 use crate::row::Row;
 use crate::row::Trouble;
 use crate::row::has_comment;
@@ -16,6 +11,11 @@ use script::line::Word;
 use script::line::line_at;
 use script::line::part;
 use script::line::word_at;
+use stepper_words::heading::Heading;
+use stepper_words::heading::Table;
+use stepper_words::heading::heading_of;
+use stepper_words::names::NAME_WORDS;
+use stepper_words::place::ROW_WORDS;
 
 pub const TABLES: usize = 6;
 

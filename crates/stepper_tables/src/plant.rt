@@ -1,8 +1,4 @@
 // What a foreign writer leaves in memory, journal and position: the lines `cell`, `entry` and `position`, after open.
-use crate::heading::Heading;
-use crate::heading::heading_of;
-use crate::names::NAME_WORDS;
-use crate::row::ROW_WORDS;
 use crate::row::read_row;
 use journal::cells::CELL_WIDTH;
 use journal::cells::Write;
@@ -13,6 +9,10 @@ use script::line::Line;
 use script::line::line_at;
 use script::line::part;
 use script::line::word_at;
+use stepper_words::heading::Heading;
+use stepper_words::heading::heading_of;
+use stepper_words::names::NAME_WORDS;
+use stepper_words::place::ROW_WORDS;
 
 // A cell that the memory has.
 fn put_cell(memory: &mut [u64], words: [u64; ROW_WORDS]) {

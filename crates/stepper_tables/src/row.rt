@@ -1,14 +1,6 @@
 // The words of one line.
 ghost use mathlib.Core.Path.{_≡_};
 ghost use Prim.Native.Nat.{_≤_, _<_};
-use crate::heading::Heading;
-use crate::heading::Table;
-use crate::names::MOST_NAMES;
-use crate::names::NAME_WORDS;
-use crate::names::keep;
-use crate::names::known;
-use crate::place::Place;
-use crate::place::place_of;
 use crate::word::Fault;
 use crate::word::Value;
 use crate::word::read_word;
@@ -16,6 +8,15 @@ use script::line::Word;
 use script::line::byte_at;
 use script::line::part;
 use script::line::word_at;
+use stepper_words::heading::Heading;
+use stepper_words::heading::Table;
+use stepper_words::names::MOST_NAMES;
+use stepper_words::names::NAME_WORDS;
+use stepper_words::names::keep;
+use stepper_words::names::known;
+use stepper_words::place::Place;
+use stepper_words::place::ROW_WORDS;
+use stepper_words::place::place_of;
 use words::kind::REAL;
 
 // Why a line is not taken. A row of another number of words than its table's has the table.
@@ -45,8 +46,6 @@ impl Outcome {
         }
     }
 }
-
-pub const ROW_WORDS: usize = 16;
 
 // The words, how many, how many names are known as texts after them, whether a name was written as a number, the word of the text that was read last, and whether all is taken.
 pub struct Row {

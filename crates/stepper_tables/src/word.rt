@@ -1,14 +1,14 @@
 // One word of a file, read by its place.
-use crate::list::Listed;
-use crate::place::Place;
-use crate::vocabulary::Operation;
-use crate::vocabulary::is_reserved;
-use crate::vocabulary::number_of;
-use crate::vocabulary::operation_of;
 use real_text::decimal::read_decimal;
 use script::line::byte_at;
 use script::line::same;
 use script::number::read_number;
+use stepper_words::list::Listed;
+use stepper_words::place::Place;
+use stepper_words::vocabulary::Operation;
+use stepper_words::vocabulary::is_reserved;
+use stepper_words::vocabulary::number_of;
+use stepper_words::vocabulary::operation_of;
 
 // Why a word is not taken. A place says what is needed there; a mnemonic in small letters has its family and operator.
 pub enum Fault {

@@ -1,0 +1,146 @@
+// Why open refused a program, in words; a CALL's resolved arguments, or why it does not resolve.
+use extern_call::rows::ResolveAnswer;
+use stepper_calls::resolve_row;
+use stepper_desk::current::is_call;
+use stepper_desk::current::this_row;
+use stepper_desk::state::Desk;
+use stepper_faults::find::find;
+use stepper_faults::tell::tell;
+use stepper_reply::errors::RESOLVE_WORDS;
+use stepper_reply::errors::show_errors;
+use stepper_reply::resolved::show_resolved;
+use stepper_screen::refusal::refused;
+use stepper_tables::file::TABLES;
+use stepper_tables::file::TABLE_WORDS;
+use stepper_tables::held::table;
+use stepper_words::heading::Table;
+use stepper_words::names::NAME_WORDS;
+use tables::family::CALL;
+use tables::refusal::ARGUMENT_COUNT;
+use tables::refusal::ARGUMENT_ERRORS;
+use tables::refusal::EXTERN_NOT_FOUND;
+use tables::refusal::NAME_TWICE;
+use tables::refusal::TABLE_SHAPE;
+use tables::refusal::WORD_NOT_ALLOWED;
+use tables::rows::INSTRUCTION_WIDTH;
+
+// Resolves a row that is a CALL, into `rows`, and shows what came; how many arguments are resolved.
+pub fn show_call(
+    source: &[u8],
+    names: &[u64; NAME_WORDS],
+    tables: &[u64; TABLE_WORDS],
+    desk: Desk,
+    row: usize,
+    rows: &mut [u64; RESOLVE_WORDS],
+) -> usize {
+    let lengths = desk.lengths;
+    let view = desk.view;
+    this_row(source, names, tables, desk, row);
+    let answer = resolve_row(tables, lengths, row, rows);
+    match answer {
+        ResolveAnswer::Resolved(count) => {
+            show_resolved(source, names, view, rows, count);
+            count
+        }
+        ResolveAnswer::Errors(count) => {
+            show_errors(source, names, view, rows, count);
+            0
+        }
+        ResolveAnswer::Refused(number) => {
+            refused(number, view);
+            0
+        }
+    }
+}
+
+fn is_resolved(answer: ResolveAnswer) -> bool {
+    match answer {
+        ResolveAnswer::Resolved(_) => true,
+        ResolveAnswer::Errors(_) => false,
+        ResolveAnswer::Refused(_) => false,
+    }
+}
+
+fn resolves(tables: &[u64; TABLE_WORDS], lengths: [usize; TABLES], row: usize) -> bool {
+    let mut rows = [0; RESOLVE_WORDS];
+    is_resolved(resolve_row(tables, lengths, row, &mut rows))
+}
+
+// Whether the row is a CALL that does not resolve.
+fn is_bad_call(tables: &[u64; TABLE_WORDS], lengths: [usize; TABLES], row: usize) -> bool {
+    if is_call(table(tables, Table::Instructions, lengths), row) {
+        return !resolves(tables, lengths, row);
+    }
+    false
+}
+
+// The first CALL that does not resolve, or the number of rows.
+fn first_bad_call(tables: &[u64; TABLE_WORDS], lengths: [usize; TABLES], rows: usize) -> usize {
+    let mut row = 0;
+    while row < rows {
+        if is_bad_call(tables, lengths, row) {
+            return row;
+        }
+        row += 1;
+    }
+    rows
+}
+
+// The first CALL that does not resolve, with its argument errors or without.
+fn explain_call(
+    source: &[u8],
+    names: &[u64; NAME_WORDS],
+    tables: &[u64; TABLE_WORDS],
+    desk: Desk,
+    with_errors: bool,
+) {
+    let lengths = desk.lengths;
+    let instructions = table(tables, Table::Instructions, lengths);
+    let row = first_bad_call(tables, lengths, instructions.len() / INSTRUCTION_WIDTH);
+    if with_errors {
+        let mut rows = [0; RESOLVE_WORDS];
+        show_call(source, names, tables, desk, row, &mut rows);
+    } else {
+        this_row(source, names, tables, desk, row);
+    }
+}
+
+// Where the tables are refused, by 1, 2 or 3.
+fn explain_tables(
+    source: &[u8],
+    names: &[u64; NAME_WORDS],
+    tables: &[u64; TABLE_WORDS],
+    desk: Desk,
+    refusal: u64,
+) {
+    let lengths = desk.lengths;
+    let at = find(
+        refusal,
+        table(tables, Table::Regions, lengths),
+        table(tables, Table::Externs, lengths),
+        table(tables, Table::Parameters, lengths),
+        table(tables, Table::Nodes, lengths),
+        table(tables, Table::Arguments, lengths),
+        table(tables, Table::Instructions, lengths),
+    );
+    let words = table(tables, at.table(), lengths);
+    tell(source, names, desk.view, at, words);
+}
+
+// Where open refused the tables or a CALL.
+pub fn explain_open(
+    source: &[u8],
+    names: &[u64; NAME_WORDS],
+    tables: &[u64; TABLE_WORDS],
+    desk: Desk,
+    refusal: u64,
+) {
+    match refusal {
+        TABLE_SHAPE | WORD_NOT_ALLOWED | NAME_TWICE => {
+            explain_tables(source, names, tables, desk, refusal)
+        }
+        EXTERN_NOT_FOUND | ARGUMENT_COUNT => explain_call(source, names, tables, desk, false),
+        ARGUMENT_ERRORS => explain_call(source, names, tables, desk, true),
+        _ => {}
+    }
+}
