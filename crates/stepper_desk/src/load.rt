@@ -15,7 +15,6 @@ use stepper_tables::file::Reader;
 use stepper_tables::file::TABLE_WORDS;
 use stepper_tables::file::read_file;
 use stepper_tables::held::table;
-use stepper_tables::plant::plant;
 use stepper_tables::row::Outcome;
 use stepper_words::heading::Table;
 use stepper_words::names::NAME_WORDS;
@@ -116,26 +115,4 @@ pub fn load(
     let mut next = desk;
     next.text = count;
     read_tables(part(buffer, 0, count), names, tables, next)
-}
-
-// What the file has of a foreign writer.
-pub fn plant_lent(
-    source: &[u8],
-    names: &mut [u64; NAME_WORDS],
-    desk: Desk,
-    memory: &mut [u64],
-    journal: &mut [u64],
-) -> Desk {
-    let words = least(desk.memory, memory.len());
-    let entries = least(desk.journal, journal.len());
-    let view = desk.view;
-    let position = plant(
-        source,
-        names,
-        view.names,
-        &mut memory[0..words],
-        &mut journal[0..entries],
-        desk.position,
-    );
-    desk.placed(position)
 }

@@ -206,14 +206,36 @@ fn tell_in_row(
     tell_row(at, words);
 }
 
+fn tell_words(which: Table, words: usize, width: usize) {
+    heading(which);
+    text(b": ");
+    grouped(words);
+    text(b" word");
+    if words != 1 {
+        byte(b's');
+    }
+    text(b", not whole rows of ");
+    grouped(width);
+}
+
+fn tell_rows(which: Table, rows: usize, limit: usize) {
+    heading(which);
+    text(b": ");
+    grouped(rows);
+    text(b" rows, at most ");
+    grouped(limit);
+}
+
 fn tell_pair(
     source: &[u8],
     names: &[u64; NAME_WORDS],
     view: View,
+    which: Table,
     n: u64,
     first: usize,
     second: usize,
 ) {
+    heading(which);
     text(b", rows ");
     number(first as u64);
     text(b" and ");
@@ -226,27 +248,10 @@ fn tell_pair(
 // `table` has the words of the table that it lies in.
 pub fn tell(source: &[u8], names: &[u64; NAME_WORDS], view: View, at: Where, table: &[u64]) {
     match at {
-        Where::NotWholeRows(which, words, width) => {
-            heading(which);
-            text(b": ");
-            grouped(words);
-            text(b" word");
-            if words != 1 {
-                byte(b's');
-            }
-            text(b", not whole rows of ");
-            grouped(width)
-        }
-        Where::OverLimit(which, rows, limit) => {
-            heading(which);
-            text(b": ");
-            grouped(rows);
-            text(b" rows, at most ");
-            grouped(limit)
-        }
+        Where::NotWholeRows(which, words, width) => tell_words(which, words, width),
+        Where::OverLimit(which, rows, limit) => tell_rows(which, rows, limit),
         Where::SameName(which, n, first, second) => {
-            heading(which);
-            tell_pair(source, names, view, n, first, second)
+            tell_pair(source, names, view, which, n, first, second)
         }
         Where::Word(row, _) => tell_in_row(source, names, view, at, row, table),
         Where::Outside(row, _) => tell_in_row(source, names, view, at, row, table),

@@ -1,11 +1,12 @@
 // About the current row: a CALL's resolved arguments and access sets, a frame's references.
 use crate::explain::show_call;
-use access_sets::access::AccessAnswer;
 use console::references::WalkAnswer;
 use console::references::memory_references;
-use memory::Next;
-use memory::Stepped;
 use stepper_calls::access_row;
+use stepper_cells::sets::SET_WORDS;
+use stepper_cells::sets::Walk;
+use stepper_cells::sets::show_sets;
+use stepper_cells::sets::walked;
 use stepper_desk::current::Current;
 use stepper_desk::current::row_at;
 use stepper_desk::current::this_row;
@@ -18,37 +19,9 @@ use stepper_tables::file::TABLE_WORDS;
 use stepper_tables::held::table;
 use stepper_words::heading::Table;
 use stepper_words::names::NAME_WORDS;
-use stepper_words::names::word_of;
 use tables::family::CALL;
 use tables::family::FRAME;
 use tables::rows::Instruction;
-
-const SET_WORDS: usize = 1024;
-
-fn set(line: Line, source: &[u8], names: &[u64; NAME_WORDS], list: &[u64], count: usize) -> Line {
-    let mut made = line;
-    let mut i = 0;
-    while i < count {
-        if !made.fits() {
-            break;
-        }
-        made = made.with(b' ')
-            .name(source, names, word_of(list, i))
-            .whole();
-        i += 1;
-    }
-    made
-}
-
-fn set_line(
-    line: Line,
-    source: &[u8],
-    names: &[u64; NAME_WORDS],
-    list: &[u64; SET_WORDS],
-    count: usize,
-) {
-    set(line, source, names, list, count).end();
-}
 
 // The read and write sets of a CALL.
 fn show_access(
@@ -59,47 +32,10 @@ fn show_access(
     row: usize,
 ) {
     let lengths = desk.lengths;
-    let view = desk.view;
     let mut reads = [0; SET_WORDS];
     let mut writes = [0; SET_WORDS];
     let answer = access_row(tables, lengths, row, &mut reads, &mut writes);
-    match answer {
-        AccessAnswer::Sets(read, written) => {
-            let line = Line::new(view);
-            set_line(line.text(b"  reads"), source, names, &reads, read);
-            set_line(line.text(b"  writes"), source, names, &writes, written)
-        }
-        AccessAnswer::Refused(number) => refused(number, view),
-    }
-}
-
-// A line of references, and the place to go on from; the node table's length at the end.
-struct Walk {
-    line: Line,
-    place: usize,
-}
-
-// The line with a reference that the walk handed out.
-fn walked(
-    walk: Walk,
-    source: &[u8],
-    names: &[u64; NAME_WORDS],
-    stepped: Stepped,
-    end: usize,
-) -> Walk {
-    let line = walk.line;
-    let next = stepped.found;
-    match next {
-        Next::Reference(found) => {
-            let told = line.with(b' ')
-                .reference(source, names, found.name, found.index);
-            Walk {
-                line: told.whole(),
-                place: stepped.place,
-            }
-        }
-        Next::End => Walk { line, place: end },
-    }
+    show_sets(source, names, desk.view, &reads, &writes, answer);
 }
 
 fn walk_on(

@@ -4,18 +4,14 @@ use stepper_calls::resolve_row;
 use stepper_desk::current::is_call;
 use stepper_desk::current::this_row;
 use stepper_desk::state::Desk;
-use stepper_faults::find::find;
-use stepper_faults::tell::tell;
 use stepper_reply::errors::RESOLVE_WORDS;
-use stepper_reply::errors::show_errors;
-use stepper_reply::resolved::show_resolved;
-use stepper_screen::refusal::refused;
-use stepper_tables::file::TABLES;
+use stepper_reply::refused::explain_tables;
+use stepper_reply::resolved::show_answer;
 use stepper_tables::file::TABLE_WORDS;
+use stepper_tables::file::TABLES;
 use stepper_tables::held::table;
 use stepper_words::heading::Table;
 use stepper_words::names::NAME_WORDS;
-use tables::family::CALL;
 use tables::refusal::ARGUMENT_COUNT;
 use tables::refusal::ARGUMENT_ERRORS;
 use tables::refusal::EXTERN_NOT_FOUND;
@@ -34,23 +30,9 @@ pub fn show_call(
     rows: &mut [u64; RESOLVE_WORDS],
 ) -> usize {
     let lengths = desk.lengths;
-    let view = desk.view;
     this_row(source, names, tables, desk, row);
     let answer = resolve_row(tables, lengths, row, rows);
-    match answer {
-        ResolveAnswer::Resolved(count) => {
-            show_resolved(source, names, view, rows, count);
-            count
-        }
-        ResolveAnswer::Errors(count) => {
-            show_errors(source, names, view, rows, count);
-            0
-        }
-        ResolveAnswer::Refused(number) => {
-            refused(number, view);
-            0
-        }
-    }
+    show_answer(source, names, desk.view, rows, answer)
 }
 
 fn is_resolved(answer: ResolveAnswer) -> bool {
@@ -103,28 +85,6 @@ fn explain_call(
     } else {
         this_row(source, names, tables, desk, row);
     }
-}
-
-// Where the tables are refused, by 1, 2 or 3.
-fn explain_tables(
-    source: &[u8],
-    names: &[u64; NAME_WORDS],
-    tables: &[u64; TABLE_WORDS],
-    desk: Desk,
-    refusal: u64,
-) {
-    let lengths = desk.lengths;
-    let at = find(
-        refusal,
-        table(tables, Table::Regions, lengths),
-        table(tables, Table::Externs, lengths),
-        table(tables, Table::Parameters, lengths),
-        table(tables, Table::Nodes, lengths),
-        table(tables, Table::Arguments, lengths),
-        table(tables, Table::Instructions, lengths),
-    );
-    let words = table(tables, at.table(), lengths);
-    tell(source, names, desk.view, at, words);
 }
 
 // Where open refused the tables or a CALL.

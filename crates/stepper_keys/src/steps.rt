@@ -5,7 +5,6 @@ use console::check::CheckAnswer;
 use journal::position::Position;
 use script::line::least;
 use session::answer::OpenAnswer;
-use session::answer::StepAnswer;
 use stepper_calls::check_tables;
 use stepper_calls::open_tables;
 use stepper_calls::step_back;
@@ -14,19 +13,19 @@ use stepper_desk::current::is_call;
 use stepper_desk::current::this_row;
 use stepper_desk::key::is_open;
 use stepper_desk::key::no_file;
-use stepper_desk::load::plant_lent;
+use stepper_desk::plant::plant_lent;
 use stepper_desk::state::Desk;
 use stepper_desk::state::JOURNAL_WORDS;
 use stepper_desk::state::MEMORY_WORDS;
 use stepper_desk::state::State;
 use stepper_reply::errors::RESOLVE_WORDS;
 use stepper_reply::errors::type_error;
+use stepper_reply::refused::stepped;
 use stepper_reply::reply::REPLY_WORDS;
 use stepper_reply::reply::Reply;
 use stepper_reply::reply::ask_reply;
 use stepper_screen::print::text;
 use stepper_screen::refusal::refused;
-use stepper_screen::view::View;
 use stepper_tables::file::TABLE_WORDS;
 use stepper_tables::held::front;
 use stepper_tables::held::table;
@@ -94,17 +93,6 @@ pub fn reset(
     next
 }
 
-// The position that a step leaves, and its refusal in words.
-fn stepped(answer: StepAnswer, view: View) -> Position {
-    match answer {
-        StepAnswer::Moved(position) => position,
-        StepAnswer::Refused(number, position) => {
-            refused(number, view);
-            position
-        }
-    }
-}
-
 // The reply where the current row is a CALL.
 fn reply_for(
     source: &[u8],
@@ -127,6 +115,28 @@ fn reply_words(reply: &[u64; REPLY_WORDS], length: usize) -> &[u64] {
     front(reply, length)
 }
 
+// A step forward, with the words of the reply.
+fn forward_with(
+    tables: &[u64; TABLE_WORDS],
+    desk: Desk,
+    memory: &mut [u64],
+    journal: &mut [u64],
+    reply: &[u64],
+) -> Desk {
+    let words = least(desk.memory, memory.len());
+    let entries = least(desk.journal, journal.len());
+    let lengths = desk.lengths;
+    let answer = step_forward(
+        tables,
+        lengths,
+        &mut memory[0..words],
+        &mut journal[0..entries],
+        desk.position,
+        reply,
+    );
+    desk.placed(stepped(answer, desk.view))
+}
+
 pub fn forward_key(
     source: &[u8],
     names: &[u64; NAME_WORDS],
@@ -135,27 +145,16 @@ pub fn forward_key(
     memory: &mut [u64],
     journal: &mut [u64],
 ) -> Desk {
-    let words = least(desk.memory, memory.len());
-    let entries = least(desk.journal, journal.len());
     if !is_open(desk) {
         return desk;
     }
-    let lengths = desk.lengths;
     let mut reply = [0; REPLY_WORDS];
     let asked = reply_for(source, names, tables, desk, &mut reply);
     let Reply::Words(length) = asked else {
         text(b"no reply, so no step\n");
         return desk;
     };
-    let answer = step_forward(
-        tables,
-        lengths,
-        &mut memory[0..words],
-        &mut journal[0..entries],
-        desk.position,
-        reply_words(&reply, length),
-    );
-    desk.placed(stepped(answer, desk.view))
+    forward_with(tables, desk, memory, journal, reply_words(&reply, length))
 }
 
 pub fn back_key(tables: &[u64], desk: Desk, memory: &mut [u64], journal: &[u64]) -> Desk {

@@ -124,6 +124,18 @@ fn mismatched_vector(line: Line, details: [u64; DETAILS]) -> Line {
         .text(b" given")
 }
 
+fn mismatched_scalar(line: Line, details: [u64; DETAILS]) -> Line {
+    line.kind(details[0])
+        .text(b" expected, ")
+        .kind(details[1])
+        .text(b" given")
+}
+
+// The line with the argument that was given.
+fn given(line: Line, source: &[u8], names: &[u64; NAME_WORDS], details: [u64; DETAILS]) -> Line {
+    argument(line.whole(), source, names, argument_of(details))
+}
+
 // The six causes, by number; the details are the error row's last four words.
 fn cause(
     line: Line,
@@ -136,18 +148,14 @@ fn cause(
         UNDECLARED => line.name(source, names, details[0])
             .text(b" is not declared"),
         MISMATCHED_VECTOR => mismatched_vector(line, details),
-        MISMATCHED_SCALAR => line.kind(details[0])
-            .text(b" expected, ")
-            .kind(details[1])
-            .text(b" given"),
-        INVALID_VECTOR => {
-            let told = line.text(b"no vector is given: ").whole();
-            argument(told, source, names, argument_of(details))
-        }
-        RETURN_ARGUMENT => {
-            let told = line.text(b"the return needs memory, not ").whole();
-            argument(told, source, names, argument_of(details))
-        }
+        MISMATCHED_SCALAR => mismatched_scalar(line, details),
+        INVALID_VECTOR => given(line.text(b"no vector is given: "), source, names, details),
+        RETURN_ARGUMENT => given(
+            line.text(b"the return needs memory, not "),
+            source,
+            names,
+            details,
+        ),
         _ => line.text(b"an immediate for the mutable ")
             .name(source, names, details[0]),
     }

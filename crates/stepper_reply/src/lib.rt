@@ -1,4 +1,5 @@
-// What is told of a CALL's arguments, of errors, and of a step; the reply to a CALL.
+// What is told beside the screen: errors, where tables are at fault, a CALL's arguments; and the reply to a CALL.
 pub mod errors;
+pub mod refused;
 pub mod reply;
 pub mod resolved;

@@ -1,9 +1,13 @@
-// A CALL's resolved arguments.
+// A CALL's resolved arguments, or why it does not resolve.
+use crate::errors::RESOLVE_WORDS;
+use crate::errors::show_errors;
 use extern_call::rows::RESOLVED_WIDTH;
+use extern_call::rows::ResolveAnswer;
 use stepper_screen::line::Line;
 use stepper_screen::line::left_out;
 use stepper_screen::line::shown;
 use stepper_screen::quil::complex;
+use stepper_screen::refusal::refused;
 use stepper_screen::view::View;
 use stepper_words::names::NAME_WORDS;
 
@@ -63,13 +67,7 @@ fn resolved_row(source: &[u8], names: &[u64; NAME_WORDS], view: View, rows: &[u6
 }
 
 // The resolved arguments, a line each.
-pub fn show_resolved(
-    source: &[u8],
-    names: &[u64; NAME_WORDS],
-    view: View,
-    rows: &[u64],
-    count: usize,
-) {
+fn show_resolved(source: &[u8], names: &[u64; NAME_WORDS], view: View, rows: &[u64], count: usize) {
     let lines = shown(view, count, LINES);
     let mut i = 0;
     while i < lines {
@@ -77,4 +75,28 @@ pub fn show_resolved(
         i += 1;
     }
     left_out(view, lines, count, b" more arguments: m, then a, shows all");
+}
+
+// What resolve answered, with its rows; how many arguments are resolved.
+pub fn show_answer(
+    source: &[u8],
+    names: &[u64; NAME_WORDS],
+    view: View,
+    rows: &[u64; RESOLVE_WORDS],
+    answer: ResolveAnswer,
+) -> usize {
+    match answer {
+        ResolveAnswer::Resolved(count) => {
+            show_resolved(source, names, view, rows, count);
+            count
+        }
+        ResolveAnswer::Errors(count) => {
+            show_errors(source, names, view, rows, count);
+            0
+        }
+        ResolveAnswer::Refused(number) => {
+            refused(number, view);
+            0
+        }
+    }
 }

@@ -1,6 +1,5 @@
 // The six tables from a text: docs/FORMAT.md says how it is written.
 pub mod file;
 pub mod held;
-pub mod plant;
 pub mod row;
 pub mod word;

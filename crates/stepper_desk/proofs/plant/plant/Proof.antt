@@ -1,9 +1,9 @@
--- `stepper_tables::plant::plant` is safe and ends. Assumes nothing.
+-- `stepper_desk::plant::plant` is safe and ends. Assumes nothing.
 use mathlib.Core.Path.{_≡_}
 use lib.ListN.{length}
 use borrow.Author.Needs.{needs}
-use Rattle.stepper_tables.proofs.plant.plant.Statement.{statement}
-use Rattle.stepper_tables.proofs.plant.plant.Tie as tie
+use Rattle.stepper_desk.proofs.plant.plant.Statement.{statement}
+use Rattle.stepper_desk.proofs.plant.plant.Tie as tie
 
 abbrev Inv-loop : tie.InvT-loop
 Inv-loop text names₀ known-names memory₀ journal₀ placed₀ at₀ left₀ names memory journal placed at left = (length memory ≡ length memory₀) × (length journal ≡ length journal₀)

@@ -1,8 +1,8 @@
--- `stepper_keys::about::set` is safe and ends. Assumes nothing.
+-- `stepper_cells::sets::set` is safe and ends. Assumes nothing.
 use Prim.Native.Nat.{_-_}
 use borrow.Author.Needs.{needs}
-use Rattle.stepper_keys.proofs.about.set.Statement.{statement}
-use Rattle.stepper_keys.proofs.about.set.Tie as tie
+use Rattle.stepper_cells.proofs.sets.set.Statement.{statement}
+use Rattle.stepper_cells.proofs.sets.set.Tie as tie
 
 abbrev Inv-loop : tie.InvT-loop
 Inv-loop source names list count made₀ i₀ made i = Unit {0}

@@ -1,14 +1,16 @@
 // What a foreign writer leaves in memory, journal and position: the lines `cell`, `entry` and `position`, after open.
-use crate::row::read_row;
+use crate::state::Desk;
 use journal::cells::CELL_WIDTH;
 use journal::cells::Write;
 use journal::entries::ENTRY_WIDTH;
 use journal::position::Position;
 use script::fill::put;
 use script::line::Line;
+use script::line::least;
 use script::line::line_at;
 use script::line::part;
 use script::line::word_at;
+use stepper_tables::row::read_row;
 use stepper_words::heading::Heading;
 use stepper_words::heading::heading_of;
 use stepper_words::names::NAME_WORDS;
@@ -92,7 +94,7 @@ fn plant_line(
 }
 
 // The position after all lines of a text that `read_file` took.
-pub fn plant(
+fn plant(
     text: &[u8],
     names: &mut [u64; NAME_WORDS],
     known_names: usize,
@@ -113,4 +115,26 @@ pub fn plant(
         left -= 1;
     }
     placed
+}
+
+// What the file has of a foreign writer.
+pub fn plant_lent(
+    source: &[u8],
+    names: &mut [u64; NAME_WORDS],
+    desk: Desk,
+    memory: &mut [u64],
+    journal: &mut [u64],
+) -> Desk {
+    let words = least(desk.memory, memory.len());
+    let entries = least(desk.journal, journal.len());
+    let view = desk.view;
+    let position = plant(
+        source,
+        names,
+        view.names,
+        &mut memory[0..words],
+        &mut journal[0..entries],
+        desk.position,
+    );
+    desk.placed(position)
 }
