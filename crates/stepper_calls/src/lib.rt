@@ -1,4 +1,7 @@
-// The public calls on the tables as the terminal holds them.
+// The public calls on the tables as the terminal holds them; what needs little beside a call.
+pub mod bad_call;
+pub mod step;
+
 use access_sets::access::AccessAnswer;
 use console::access::access;
 use console::check::CheckAnswer;

@@ -1,14 +1,12 @@
 // Why open refused a program, in words; a CALL's resolved arguments, or why it does not resolve.
-use extern_call::rows::ResolveAnswer;
+use stepper_calls::bad_call::first_bad_call;
 use stepper_calls::resolve_row;
-use stepper_desk::current::is_call;
 use stepper_desk::current::this_row;
 use stepper_desk::state::Desk;
 use stepper_reply::errors::RESOLVE_WORDS;
 use stepper_reply::refused::explain_tables;
 use stepper_reply::resolved::show_answer;
 use stepper_tables::file::TABLE_WORDS;
-use stepper_tables::file::TABLES;
 use stepper_tables::held::table;
 use stepper_words::heading::Table;
 use stepper_words::names::NAME_WORDS;
@@ -33,39 +31,6 @@ pub fn show_call(
     this_row(source, names, tables, desk, row);
     let answer = resolve_row(tables, lengths, row, rows);
     show_answer(source, names, desk.view, rows, answer)
-}
-
-fn is_resolved(answer: ResolveAnswer) -> bool {
-    match answer {
-        ResolveAnswer::Resolved(_) => true,
-        ResolveAnswer::Errors(_) => false,
-        ResolveAnswer::Refused(_) => false,
-    }
-}
-
-fn resolves(tables: &[u64; TABLE_WORDS], lengths: [usize; TABLES], row: usize) -> bool {
-    let mut rows = [0; RESOLVE_WORDS];
-    is_resolved(resolve_row(tables, lengths, row, &mut rows))
-}
-
-// Whether the row is a CALL that does not resolve.
-fn is_bad_call(tables: &[u64; TABLE_WORDS], lengths: [usize; TABLES], row: usize) -> bool {
-    if is_call(table(tables, Table::Instructions, lengths), row) {
-        return !resolves(tables, lengths, row);
-    }
-    false
-}
-
-// The first CALL that does not resolve, or the number of rows.
-fn first_bad_call(tables: &[u64; TABLE_WORDS], lengths: [usize; TABLES], rows: usize) -> usize {
-    let mut row = 0;
-    while row < rows {
-        if is_bad_call(tables, lengths, row) {
-            return row;
-        }
-        row += 1;
-    }
-    rows
 }
 
 // The first CALL that does not resolve, with its argument errors or without.

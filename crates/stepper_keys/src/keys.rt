@@ -1,11 +1,11 @@
 // The keys, one a line.
 use crate::about::about;
-use crate::steps::back_key;
-use crate::steps::check_key;
 use crate::steps::forward_key;
 use crate::steps::reset;
 use script::line::part;
 use script::line::word_at;
+use stepper_calls::step::back_key;
+use stepper_calls::step::check_key;
 use stepper_cells::changes::copy;
 use stepper_cells::changes::tell_unchanged;
 use stepper_cells::screen::show;

@@ -1,14 +1,11 @@
-// What the keys do to the session: a file read, open, forward, back.
+// What the keys do to the session: open, and forward with a reply.
 use crate::explain::explain_open;
 use crate::explain::show_call;
-use console::check::CheckAnswer;
 use journal::position::Position;
 use script::line::least;
 use session::answer::OpenAnswer;
-use stepper_calls::check_tables;
 use stepper_calls::open_tables;
-use stepper_calls::step_back;
-use stepper_calls::step_forward;
+use stepper_calls::step::forward_with;
 use stepper_desk::current::is_call;
 use stepper_desk::current::this_row;
 use stepper_desk::key::is_open;
@@ -20,7 +17,6 @@ use stepper_desk::state::MEMORY_WORDS;
 use stepper_desk::state::State;
 use stepper_reply::errors::RESOLVE_WORDS;
 use stepper_reply::errors::type_error;
-use stepper_reply::refused::stepped;
 use stepper_reply::reply::REPLY_WORDS;
 use stepper_reply::reply::Reply;
 use stepper_reply::reply::ask_reply;
@@ -115,28 +111,6 @@ fn reply_words(reply: &[u64; REPLY_WORDS], length: usize) -> &[u64] {
     front(reply, length)
 }
 
-// A step forward, with the words of the reply.
-fn forward_with(
-    tables: &[u64; TABLE_WORDS],
-    desk: Desk,
-    memory: &mut [u64],
-    journal: &mut [u64],
-    reply: &[u64],
-) -> Desk {
-    let words = least(desk.memory, memory.len());
-    let entries = least(desk.journal, journal.len());
-    let lengths = desk.lengths;
-    let answer = step_forward(
-        tables,
-        lengths,
-        &mut memory[0..words],
-        &mut journal[0..entries],
-        desk.position,
-        reply,
-    );
-    desk.placed(stepped(answer, desk.view))
-}
-
 pub fn forward_key(
     source: &[u8],
     names: &[u64; NAME_WORDS],
@@ -155,35 +129,4 @@ pub fn forward_key(
         return desk;
     };
     forward_with(tables, desk, memory, journal, reply_words(&reply, length))
-}
-
-pub fn back_key(tables: &[u64], desk: Desk, memory: &mut [u64], journal: &[u64]) -> Desk {
-    let words = least(desk.memory, memory.len());
-    let entries = least(desk.journal, journal.len());
-    if !is_open(desk) {
-        return desk;
-    }
-    let lengths = desk.lengths;
-    let answer = step_back(
-        tables,
-        lengths,
-        &mut memory[0..words],
-        &journal[0..entries],
-        desk.position,
-    );
-    desk.placed(stepped(answer, desk.view))
-}
-
-// The verdict of the type check, in words.
-pub fn check_key(tables: &[u64], desk: Desk) {
-    let lengths = desk.lengths;
-    let answer = check_tables(tables, lengths);
-    match answer {
-        CheckAnswer::Accepted => text(b"accepted by the type check\n"),
-        CheckAnswer::Refused(number) => refused(number, desk.view),
-        CheckAnswer::Error(error) => {
-            refused(TYPE_ERROR, desk.view);
-            type_error(error)
-        }
-    }
 }

@@ -1,8 +1,8 @@
--- `stepper_keys::explain::first_bad_call` is safe and ends. Assumes nothing.
+-- `stepper_calls::bad_call::first_bad_call` is safe and ends. Assumes nothing.
 use Prim.Native.Nat.{_-_}
 use borrow.Author.Needs.{needs}
-use Rattle.stepper_keys.proofs.explain.first_bad_call.Statement.{statement}
-use Rattle.stepper_keys.proofs.explain.first_bad_call.Tie as tie
+use Rattle.stepper_calls.proofs.bad_call.first_bad_call.Statement.{statement}
+use Rattle.stepper_calls.proofs.bad_call.first_bad_call.Tie as tie
 
 abbrev Inv-loop : tie.InvT-loop
 Inv-loop tables lengths rows row₀ row = Unit {0}
