@@ -5,5 +5,4 @@ pub mod key;
 pub mod load;
 pub mod plant;
 pub mod state;
-pub mod table_words;
 pub mod trouble;

@@ -1,10 +1,10 @@
 // The six tables as words, for a host that takes them: each heading, then a row a line, in decimal.
 ghost use Prim.Native.Nat.{_<_};
-use crate::load::absent;
-use crate::load::load;
-use crate::load::read_bytes;
-use crate::state::Desk;
-use crate::state::TEXT_BYTES;
+use stepper_desk::load::absent;
+use stepper_desk::load::load;
+use stepper_desk::load::read_bytes;
+use stepper_desk::state::Desk;
+use stepper_desk::state::TEXT_BYTES;
 use stepper_screen::print::byte;
 use stepper_screen::print::number;
 use stepper_screen::print::text;

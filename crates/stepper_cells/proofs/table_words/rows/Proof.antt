@@ -1,9 +1,9 @@
--- `stepper_desk::table_words::rows` is safe and ends. Assumes nothing.
+-- `stepper_cells::table_words::rows` is safe and ends. Assumes nothing.
 use Prim.Native.Nat.{_-_}
 use lib.ListN.{length}
 use borrow.Author.Needs.{needs}
-use Rattle.stepper_desk.proofs.table_words.rows.Statement.{statement}
-use Rattle.stepper_desk.proofs.table_words.rows.Tie as tie
+use Rattle.stepper_cells.proofs.table_words.rows.Statement.{statement}
+use Rattle.stepper_cells.proofs.table_words.rows.Tie as tie
 
 abbrev Inv-loop : tie.InvT-loop
 Inv-loop words width i₀ i = Unit {0}
