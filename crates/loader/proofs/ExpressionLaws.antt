@@ -19,34 +19,12 @@ use Rattle.loader.proofs.Loaded.{both}
 use Rattle.loader.specs.Shape.{wholeRows}
 use Rattle.loader.specs.Load.{loadNodesLook}
 use Rattle.loader.specs.Allowed.{nodeAllowed, nodesAllowedFrom, nodesAllowed}
-use Rattle.loader.specs.Expression.{treesAfter, treesAllowed}
-use Rattle.loader.specs.declared.expression.TreesLeft.{TreesLeft}
-use Rattle.loader.specs.declared.expression.TreesLeft.the-variants.{Left, Refused}
+use Rattle.loader.specs.Children.{childrenOf}
+use Rattle.loader.specs.Expression.{treesAllowed}
+use Rattle.loader.specs.declared.children.Children.the-variants.{Count, Refused}
+use Rattle.loader.proofs.ChildrenLaws.{children-count, children-refused}
 
--- an address is allowed, whatever its words are, and has no children
-pub after-address : (x : Node) (trees : ℕ) → x .tag ≡ tag.address → Left (trees - 1) ≡ treesAfter x trees
-unfolding nodeAllowed arityOf
-after-address x trees e = let z : trees - 1 + 0 ≡ trees - 1 = omega arith in rw (e, z)
-
--- an infix without words is allowed, and has two children
-pub after-infix : (x : Node) (trees : ℕ) → 0 < trees → (eqb (x .tag) tag.infixExpression && (eqb (x .first) 0 && eqb (x .second) 0)) ≡ true
-    → Left (trees + 1) ≡ treesAfter x trees
-unfolding nodeAllowed arityOf
-after-infix x trees h e =
-    let (t, unused) = both (eqb (x .tag) tag.infixExpression) (eqb (x .first) 0 && eqb (x .second) 0) e in
-    let z : trees - 1 + 2 ≡ trees + 1 = omega arith in
-    rw (eqb-true (x .tag) tag.infixExpression t, unused, z)
-
--- what an answer says of the node
-after-left : (b : Bool) (k l : ℕ) → Left l ≡ cond b (Left k) Refused → (b ≡ true) × (l ≡ k)
-after-left true k l e = (refl, cc)
-after-left false k l e = let z : _≡_ {A = ℕ} 0 1 = cc in absurd (omega arith)
-
-after-refused : (b : Bool) (k : ℕ) → Refused ≡ cond b (Left k) Refused → b ≡ false
-after-refused true k e = let z : _≡_ {A = ℕ} 0 1 = cc in absurd (omega arith)
-after-refused false k e = refl
-
-and-false : (b : Bool) → (b && false) ≡ false
+pub and-false : (b : Bool) → (b && false) ≡ false
 and-false true = refl
 and-false false = refl
 
@@ -56,21 +34,19 @@ module _ (nodes : List ℕ) (trees i n : ℕ) where
   pass-stop h e = rw (trees-stop nodes trees i n h e) (and-false (nodesAllowedFrom nodes i (n - i)))
 
   -- and at a node that is not allowed
-  pub pass-refused : {x : Node} → x ≡ nodeAt nodes i → Refused ≡ treesAfter x trees → i < n → treesAllowed nodes trees i (n - i) ≡ false
+  pub pass-refused : {x : Node} → x ≡ nodeAt nodes i → Refused ≡ childrenOf x → i < n → treesAllowed nodes trees i (n - i) ≡ false
   pass-refused e f h =
-      let q : nodeAllowed (nodeAt nodes i) ≡ false = after-refused _ (trees - 1 + arityOf (nodeTag nodes i)) (f ∙ ap (λ y. treesAfter y trees) e) in
+      let q : nodeAllowed (nodeAt nodes i) ≡ false = children-refused (nodeAt nodes i) (f ∙ ap childrenOf e) in
       rw (first-hit (λ k. not (nodeAllowed (nodeAt nodes k))) (λ k. false) true n i h (ap not q))
 
   pass-turn : i < n → (trees ≡ 0 → ⊥) → nodeAllowed (nodeAt nodes i) ≡ true
       → treesAllowed nodes trees i (n - i) ≡ treesAllowed nodes (trees - 1 + arityOf (nodeTag nodes i)) (i + 1) (n - (i + 1))
   pass-turn h t e = rw (first-miss (λ k. not (nodeAllowed (nodeAt nodes k))) (λ k. false) true n i h (ap not e), trees-step nodes trees i n h t)
 
-  -- a turn leaves at most one tree more
-  pub pass-left : {x : Node} (l : ℕ) → x ≡ nodeAt nodes i → Left l ≡ treesAfter x trees → i < n → (trees ≡ 0 → ⊥)
-      → (l ≤ trees + 1) × (treesAllowed nodes l (i + 1) (n - (i + 1)) ≡ treesAllowed nodes trees i (n - i))
-  pass-left l e f h t =
-      let (a, b) = after-left (nodeAllowed (nodeAt nodes i)) (trees - 1 + arityOf (nodeTag nodes i)) l (f ∙ ap (λ y. treesAfter y trees) e) in
-      (omega (arith, arity-le (nodeTag nodes i), b), rw b (sym (pass-turn h t a)))
+  -- a turn leaves the trees of the node's children in its tree's place
+  pub pass-left : {x : Node} (c : ℕ) → x ≡ nodeAt nodes i → Count c ≡ childrenOf x → i < n → (trees ≡ 0 → ⊥)
+      → treesAllowed nodes (trees - 1 + c) (i + 1) (n - (i + 1)) ≡ treesAllowed nodes trees i (n - i)
+  pass-left c e f h t = let (a, b) = children-count (nodeAt nodes i) c (f ∙ ap childrenOf e) in rw b (sym (pass-turn h t a))
 
   pub pass-end : n ≤ i → treesAllowed nodes trees i (n - i) ≡ eqb trees 0
   pass-end h = rw (first-end (λ k. not (nodeAllowed (nodeAt nodes k))) (λ k. false) true n i h, trees-end nodes trees i n h)

@@ -2,4 +2,5 @@
 pub mod Loaded
 pub mod SourceLaws
 pub mod NodesLaws
+pub mod ChildrenLaws
 pub mod ExpressionLaws

@@ -21,7 +21,7 @@ use Rattle.loader.specs.Load.{allowedTables}
 use Rattle.loader.proofs.Loaded.{both}
 
 module _ (x : Node) where
-  abbrev unused : Bool
+  abbrev pub unused : Bool
   unused = eqb (x .first) 0 && eqb (x .second) 0
 
   -- every tag allows unused words

@@ -36,9 +36,16 @@ fn extern_allowed(x: Extern, parameters: usize) -> bool
 fn parameter_allowed(x: Parameter) -> bool
     ensures { λ r. ⌜ r ≡ parameterAllowed x ⌝ }
 {
-    (x.mutable <= 1)
-        & ((x.shape <= VARIABLE_VECTOR)
-            & ((x.kind <= REAL) & ((x.shape == FIXED_VECTOR) | (x.length == 0))))
+    if 1 < x.mutable {
+        return false;
+    }
+    if REAL < x.kind {
+        return false;
+    }
+    if x.shape == FIXED_VECTOR {
+        return true;
+    }
+    (x.shape <= VARIABLE_VECTOR) & (x.length == 0)
 }
 
 // A node without words, as most are, is passed first, for speed.

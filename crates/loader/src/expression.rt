@@ -1,43 +1,17 @@
 // Refusal 2 of the walk: the words of every node and, in the same pass, whether the chosen range is one tree.
 ghost use mathlib.Core.Path.{_≡_};
 ghost use mathlib.Core.Bool.{_&&_};
-ghost use Prim.Native.Nat.{_-_, _<_, _≤_};
+ghost use Prim.Native.Nat.{_-_, _≤_};
 ghost use Rattle.tables.specs.Rows.{nodeLimit, nodeRows};
 ghost use Rattle.tables.specs.Tree.{oneTree};
 ghost use Rattle.loader.specs.Allowed.{nodesAllowed};
-ghost use Rattle.loader.specs.Expression.{treesAfter, treesAllowed};
-use crate::allowed::node_allowed;
+ghost use Rattle.loader.specs.Expression.{treesAllowed};
 use crate::allowed::nodes_allowed;
-use tables::node_tag::ADDRESS;
-use tables::node_tag::INFIX;
+use crate::children::Children;
+use crate::children::children_of;
 use tables::rows::NODE_WIDTH;
-use tables::rows::Node;
 use tables::rows::node_at;
-use tables::tree::arity;
 use tables::tree::range_inside;
-
-// How many trees are left after a node whose words are allowed.
-enum TreesLeft {
-    Left(usize),
-    Refused,
-}
-
-// An address, which has any words and no children, and an infix, of which most expressions are made, are passed first, for speed.
-fn trees_after(x: Node, trees: usize) -> TreesLeft
-    requires { ⌜ (0 < trees) × (trees ≤ nodeLimit) ⌝ }
-    ensures { λ r. ⌜ r ≡ treesAfter x trees ⌝ }
-{
-    if x.tag == ADDRESS {
-        return TreesLeft::Left(trees - 1);
-    }
-    if (x.tag == INFIX) & ((x.first == 0) & (x.second == 0)) {
-        return TreesLeft::Left(trees + 1);
-    }
-    if !node_allowed(x) {
-        return TreesLeft::Refused;
-    }
-    TreesLeft::Left(trees - 1 + arity(x.tag))
-}
 
 // Whether the rows from `first` to before `end` are allowed and exactly one tree.
 fn tree_allowed(nodes: &[u64], first: usize, end: usize) -> bool
@@ -50,10 +24,10 @@ fn tree_allowed(nodes: &[u64], first: usize, end: usize) -> bool
         if trees == 0 {
             return false;
         }
-        let TreesLeft::Left(left) = trees_after(node_at(nodes, i), trees) else {
+        let Children::Count(children) = children_of(node_at(nodes, i)) else {
             return false;
         };
-        trees = left;
+        trees = trees - 1 + children;
         i += 1;
     }
     trees == 0

@@ -1,7 +1,7 @@
 // Refusal 2, of the instructions: the words that each family allows.
 ghost use mathlib.Core.Path.{_≡_};
 ghost use mathlib.Core.Bool.{_&&_, _||_};
-ghost use Prim.Native.Nat.{_<_, _≤_};
+ghost use Prim.Native.Nat.{_+_, _<_, _≤_};
 ghost use lib.Dec.{eqb, ltb};
 ghost use lib.ListN.{length};
 ghost use Rattle.tables.specs.Rows.{nodeRows, nodeLimit};
@@ -122,7 +122,7 @@ fn allowed_with_ends(
     ends: &mut [u16],
     arguments: usize,
 ) -> bool
-    requires { ⌜ (nodeRows (now nodes) ≤ nodeLimit) × (nodeRows (now nodes) < length (now ends)) ⌝ }
+    requires { ⌜ (nodeRows (now nodes) ≤ nodeLimit) × (nodeRows (now nodes) + 1 < length (now ends)) ⌝ }
     ensures { λ r. ⌜ r ≡ (nodesAllowed (now (nodes .entry)) && instructionsAllowed (now (nodes .entry)) arguments (now (instructions .entry))) ⌝ }
 {
     if !nodes_end(nodes, ends) {
@@ -131,20 +131,21 @@ fn allowed_with_ends(
     rows_allowed(instructions, nodes, ends, arguments)
 }
 
-// With room for few nodes, which takes little to clear.
+// With room for few nodes, which takes little to fill.
 fn allowed_with_few_nodes(instructions: &[u64], nodes: &[u64], arguments: usize) -> bool
     requires { ⌜ nodeRows (now nodes) < 64 ⌝ }
     ensures { λ r. ⌜ r ≡ (nodesAllowed (now (nodes .entry)) && instructionsAllowed (now (nodes .entry)) arguments (now (instructions .entry))) ⌝ }
 {
-    let mut ends = [0; FEW_NODES];
+    let mut ends = [1; FEW_NODES + 1];
     allowed_with_ends(instructions, nodes, &mut ends, arguments)
 }
 
+// The room is filled with ones, since zeros would be a call of memset, and the library calls nothing.
 fn allowed_with_many_nodes(instructions: &[u64], nodes: &[u64], arguments: usize) -> bool
     requires { ⌜ nodeRows (now nodes) ≤ nodeLimit ⌝ }
     ensures { λ r. ⌜ r ≡ (nodesAllowed (now (nodes .entry)) && instructionsAllowed (now (nodes .entry)) arguments (now (instructions .entry))) ⌝ }
 {
-    let mut ends = [0; NODE_LIMIT + 1];
+    let mut ends = [1; NODE_LIMIT + 2];
     allowed_with_ends(instructions, nodes, &mut ends, arguments)
 }
 

@@ -1,19 +1,18 @@
 -- Laws of where trees end: a node's by its number of children, from the ends of the trees after it. Assumes nothing.
 use Prim.Native.Nat.{ℕ, zero, suc, _+_, _-_, _<_, _≤_}
-use mathlib.Core.Bool.{Bool, true, false, _||_}
+use mathlib.Core.Bool.{Bool, true, false}
 use mathlib.Core.List.{List}
 use mathlib.Core.Path.{_≡_, refl, sym, ap, _∙_}
 use native.Mathlib.Omega.{arith}
 use native.Mathlib.Decide.{ℕ-discrete}
-use borrow.Author.Tests.{eq-eqb, ne-eqb, eqb-true, eqb-false, leb-true, leb-false}
+use borrow.Author.Tests.{eq-eqb, ne-eqb, eqb-true, leb-true, leb-false}
 use lib.Dec.{eqb, leb}
 use lib.ListN.{getD, set, length, length-set}
 use lib.Seq.{getD-set-same, getD-set-other}
-use Rattle.tables.specs.Rows.{nodeRows, nodeTag}
+use Rattle.tables.specs.Rows.{nodeLimit, nodeRows, nodeTag}
 use Rattle.tables.specs.Tree.{arityOf, treesFrom}
 use Rattle.tables.specs.Ends.{TreeEnd, EndsFrom}
-use Rattle.tables.proofs.FirstLaws.{never, neither}
-use Rattle.tables.proofs.TreeLaws.{arity-le}
+use Rattle.tables.proofs.FirstLaws.{never}
 
 one-not-none : _≡_ {A = ℕ} 1 0 → ⊥
 one-not-none z = omega (arith, z)
@@ -31,10 +30,6 @@ module _ (nodes : List ℕ) where
   no-rows : (trees i : ℕ) → treesFrom nodes trees i 0 ≡ eqb trees 0
   unfolding treesFrom
   no-rows trees i = refl
-
-  -- no rows are no tree
-  pub no-tree : (i : ℕ) → treesFrom nodes 1 i 0 ≡ false
-  no-tree i = no-rows 1 i
 
   -- whole trees are passed, and the others go on
   after-trees : (trees others i m n : ℕ) → treesFrom nodes trees i m ≡ true → treesFrom nodes (trees + others) i (m + n) ≡ treesFrom nodes others (i + m) n
@@ -77,8 +72,8 @@ module _ (nodes : List ℕ) where
           more (ih ne (ap (λ t. treesFrom nodes t (i + 1) n) (sym q) ∙ (sym (next-tree (trees + others) i n (λ z. h (omega arith))) ∙ e)))
 
   -- a tree's end is no row at or before its first
-  not-end : (i e k : ℕ) → TreeEnd nodes i e → 0 < k → k ≤ i → eqb e k ≡ false
-  not-end i e k t p l = ne-eqb e k (λ q. let a : i < e = t .after (λ z. omega (arith, z, q)) in omega (arith, a, q))
+  not-end : (i e k : ℕ) → TreeEnd nodes i e → k ≤ i → k ≤ nodeRows nodes → eqb e k ≡ false
+  not-end i e k t l h = ne-eqb e k (λ q. let a = t .after k l h in omega (arith, a, q))
 
   -- no trees are no rows
   no-trees : (i n : ℕ) → treesFrom nodes 0 i n ≡ eqb i (i + n)
@@ -87,11 +82,11 @@ module _ (nodes : List ℕ) where
   no-trees i (suc n) = sym (ne-eqb i (i + suc n) (λ q. omega (arith, q)))
 
   -- past the last node there is no tree
-  pub end-none : TreeEnd nodes (nodeRows nodes) 0
-  end-none = record { within = omega arith; after = λ h. absurd (h refl); exact = λ n p l. absurd (omega arith) }
+  pub end-none : (i : ℕ) → nodeRows nodes ≤ i → TreeEnd nodes i (nodeRows nodes + 1)
+  end-none i h = record { within = omega arith; after = λ k a b. omega (arith, b); exact = λ n p l. absurd (omega arith) }
 
   -- the tree of row i by its children's: `below` says when so many rows from the next one on are they
-  by-children : (i e : ℕ) → e ≤ nodeRows nodes → ((e ≡ 0 → ⊥) → i < e)
+  by-children : (i e : ℕ) → e ≤ nodeRows nodes + 1 → ((k : ℕ) → k ≤ i → k ≤ nodeRows nodes → k < e)
       → ((n : ℕ) → i + 1 + n ≤ nodeRows nodes → treesFrom nodes (arityOf (nodeTag nodes i)) (i + 1) n ≡ eqb e (i + 1 + n)) → TreeEnd nodes i e
   by-children i e w a below = record { within = w; after = a; exact = exactly }
     where
@@ -104,46 +99,35 @@ module _ (nodes : List ℕ) where
 
   module _ (i : ℕ) (l : i < nodeRows nodes) where
     pub end-leaf : arityOf (nodeTag nodes i) ≡ 0 → TreeEnd nodes i (i + 1)
-    end-leaf z = by-children i (i + 1) (omega arith) (λ h. omega arith) (λ n k. rw z (no-trees (i + 1) n))
+    end-leaf z = by-children i (i + 1) (omega arith) (λ k a b. omega arith) (λ n k. rw z (no-trees (i + 1) n))
 
     pub end-one : (e : ℕ) → arityOf (nodeTag nodes i) ≡ 1 → TreeEnd nodes (i + 1) e → TreeEnd nodes i e
-    end-one e z t = by-children i e (t .within) (λ h. let a = t .after h in omega (arith, a)) (λ n k. rw z (at n k))
+    end-one e z t = by-children i e (t .within) (λ k a b. t .after k (omega arith) b) (λ n k. rw z (at n k))
       where
         at : (n : ℕ) → i + 1 + n ≤ nodeRows nodes → treesFrom nodes 1 (i + 1) n ≡ eqb e (i + 1 + n)
-        at zero k = no-rows 1 (i + 1) ∙ sym (not-end (i + 1) e (i + 1 + 0) t (omega arith) (omega arith))
+        at zero k = no-rows 1 (i + 1) ∙ sym (not-end (i + 1) e (i + 1 + 0) t (omega arith) k)
         at (suc n) k = t .exact (suc n) (omega arith) k
 
-    pub end-two-none : arityOf (nodeTag nodes i) ≡ 2 → TreeEnd nodes (i + 1) 0 → TreeEnd nodes i 0
-    end-two-none z t = by-children i 0 (omega arith) (λ h. absurd (h refl)) (λ n k. rw z (at n k (treesFrom nodes 2 (i + 1) n) refl))
-      where
-        part : (n : ℕ) → i + 1 + n ≤ nodeRows nodes → Part 1 (i + 1) n → ⊥
-        part n k p =
-            let w = p .within in
-            let s = p .some in
-            let q : 0 ≡ i + 1 + p .rows = eqb-true 0 (i + 1 + p .rows) (sym (t .exact (p .rows) s (omega (arith, w))) ∙ p .whole) in
-            omega (arith, q)
+    -- the second child's tree starts where the first's ends
+    pub second-after : (f : ℕ) → TreeEnd nodes (i + 1) f → i + 1 < f
+    second-after f t = t .after (i + 1) (omega arith) (omega arith)
 
-        at : (n : ℕ) → i + 1 + n ≤ nodeRows nodes → (b : Bool) → treesFrom nodes 2 (i + 1) n ≡ b → treesFrom nodes 2 (i + 1) n ≡ eqb 0 (i + 1 + n)
-        at n k true e = absurd (part n k (first-trees 1 1 (i + 1) n one-not-none e))
-        at n k false e = e ∙ sym (ne-eqb 0 (i + 1 + n) (λ q. omega (arith, q)))
-
-    pub end-two : (f e : ℕ) → (f ≡ 0 → ⊥) → arityOf (nodeTag nodes i) ≡ 2 → TreeEnd nodes (i + 1) f → TreeEnd nodes f e → TreeEnd nodes i e
-    end-two f e h z t u =
-        let a : i + 1 < f = t .after h in
-        by-children i e (u .within) (λ g. let b = u .after g in omega (arith, a, b)) (λ n k. rw z (at n k a (leb f (i + 1 + n)) refl (treesFrom nodes 2 (i + 1) n) refl))
+    pub end-two : (f e : ℕ) → arityOf (nodeTag nodes i) ≡ 2 → TreeEnd nodes (i + 1) f → TreeEnd nodes f e → TreeEnd nodes i e
+    end-two f e z t u =
+        let a : i + 1 < f = second-after f t in
+        by-children i e (u .within) (λ k b c. u .after k (omega arith) c) (λ n k. rw z (at n k a (leb f (i + 1 + n)) refl (treesFrom nodes 2 (i + 1) n) refl))
       where
         m : ℕ
         m = f - (i + 1)
 
-        first : i + 1 < f → treesFrom nodes 1 (i + 1) m ≡ true
-        first a =
-            let w = t .within in
+        first : i + 1 < f → f ≤ nodeRows nodes → treesFrom nodes 1 (i + 1) m ≡ true
+        first a w =
             let q : i + 1 + m ≡ f = omega arith in
-            t .exact m (omega arith) (omega (arith, w)) ∙ eq-eqb f (i + 1 + m) (sym q)
+            t .exact m (omega arith) (omega arith) ∙ eq-eqb f (i + 1 + m) (sym q)
 
-        second : (n : ℕ) → 0 < f → f + n ≤ nodeRows nodes → treesFrom nodes 1 f n ≡ eqb e (f + n)
-        second zero p k = no-rows 1 f ∙ sym (not-end f e (f + 0) u (omega arith) (omega arith))
-        second (suc n) p k = u .exact (suc n) (omega arith) k
+        second : (n : ℕ) → f + n ≤ nodeRows nodes → treesFrom nodes 1 f n ≡ eqb e (f + n)
+        second zero k = no-rows 1 f ∙ sym (not-end f e (f + 0) u (omega arith) k)
+        second (suc n) k = u .exact (suc n) (omega arith) k
 
         at : (n : ℕ) → i + 1 + n ≤ nodeRows nodes → i + 1 < f → (b : Bool) → leb f (i + 1 + n) ≡ b → (s : Bool) → treesFrom nodes 2 (i + 1) n ≡ s
             → treesFrom nodes 2 (i + 1) n ≡ eqb e (i + 1 + n)
@@ -153,7 +137,7 @@ module _ (nodes : List ℕ) where
             let q : i + 1 + m ≡ f = omega arith in
             let r : f + (n - m) ≡ i + 1 + n = omega arith in
             ap (treesFrom nodes 2 (i + 1)) p
-            ∙ (after-trees 1 1 (i + 1) m (n - m) (first a) ∙ (ap (λ j. treesFrom nodes 1 j (n - m)) q ∙ (second (n - m) (omega arith) (omega arith) ∙ ap (eqb e) r)))
+            ∙ (after-trees 1 1 (i + 1) m (n - m) (first a (omega arith)) ∙ (ap (λ j. treesFrom nodes 1 j (n - m)) q ∙ (second (n - m) (omega arith) ∙ ap (eqb e) r)))
         at n k a false c true d =
             let w : i + 1 + n < f = leb-false _ _ c in
             let p : Part 1 (i + 1) n = first-trees 1 1 (i + 1) n one-not-none d in
@@ -161,51 +145,30 @@ module _ (nodes : List ℕ) where
             let s = p .some in
             let q : f ≡ i + 1 + p .rows = eqb-true f (i + 1 + p .rows) (sym (t .exact (p .rows) s (omega (arith, b))) ∙ p .whole) in
             absurd (omega (arith, q, w, b))
-        at n k a false c false d =
-            let w : i + 1 + n < f = leb-false _ _ c in
-            d ∙ sym (ne-eqb e (i + 1 + n) (λ q. let b : f < e = u .after (λ z. omega (arith, z, q)) in omega (arith, b, q, w)))
-
-    -- a node with r children, one or two, whose first child's tree ends at f: its own ends there, or where the second's does
-    module _ (r f : ℕ) (q : r ≡ arityOf (nodeTag nodes i)) (h : r ≡ 0 → ⊥) (t : TreeEnd nodes (i + 1) f) where
-      two : (r ≡ 1 → ⊥) → arityOf (nodeTag nodes i) ≡ 2
-      two ne = omega (arith, arity-le (nodeTag nodes i), q, h, ne)
-
-      pub end-first : (eqb r 1 || eqb f 0) ≡ true → TreeEnd nodes i f
-      end-first b = at (ℕ-discrete r 1) (ℕ-discrete f 0)
-        where
-          at : Dec (r ≡ 1) → Dec (f ≡ 0) → TreeEnd nodes i f
-          at (yes z) d = end-one f (sym q ∙ z) t
-          at (no ne) (yes z) = rw z (end-two-none (two ne) (rw z at t))
-          at (no ne) (no nz) = never (sym (sym b ∙ rw (ne-eqb r 1 ne, ne-eqb f 0 nz)))
-
-      pub end-second : (e : ℕ) → (eqb r 1 || eqb f 0) ≡ false → TreeEnd nodes f e → TreeEnd nodes i e
-      end-second e b u = let (a, z) = neither (eqb r 1) (eqb f 0) b in end-two f e (eqb-false f 0 z) (two (eqb-false r 1 a)) t u
-
-      pub first-after : (eqb r 1 || eqb f 0) ≡ false → i + 1 ≤ f
-      first-after b = let l : i + 1 < f = t .after (eqb-false f 0 (neither (eqb r 1) (eqb f 0) b .1)) in omega (arith, l)
+        at n k a false c false d = let w : i + 1 + n < f = leb-false _ _ c in d ∙ sym (not-end f e (i + 1 + n) u (omega arith) k)
 
 module _ (nodes ends : List ℕ) where
   -- past the last node the list holds no end
-  pub ends-none : nodeRows nodes < length ends → nodeRows nodes ≤ 2048 → EndsFrom nodes (set ends (nodeRows nodes) 0) (nodeRows nodes)
-  ends-none c r = record { room = rw (length-set ends (nodeRows nodes) 0) c; rows = r; each = each }
+  pub ends-none : nodeRows nodes + 1 < length ends → nodeRows nodes ≤ nodeLimit → EndsFrom nodes (set ends (nodeRows nodes + 1) (nodeRows nodes + 1)) (nodeRows nodes + 1)
+  ends-none c r = record { room = rw (length-set ends (nodeRows nodes + 1) (nodeRows nodes + 1)) c; rows = r; each = each }
     where
-      each : (k : ℕ) → nodeRows nodes ≤ k → k ≤ nodeRows nodes → TreeEnd nodes k (getD (set ends (nodeRows nodes) 0) k 0)
+      each : (k : ℕ) → nodeRows nodes + 1 ≤ k → k ≤ nodeRows nodes + 1 → TreeEnd nodes k (getD (set ends (nodeRows nodes + 1) (nodeRows nodes + 1)) k 0)
       each k l h =
-          let q : k ≡ nodeRows nodes = omega arith in
-          rw (q, getD-set-same ends (nodeRows nodes) 0 0 c) (end-none nodes)
+          let q : k ≡ nodeRows nodes + 1 = omega arith in
+          rw (q, getD-set-same ends (nodeRows nodes + 1) (nodeRows nodes + 1) 0 c) (end-none nodes (nodeRows nodes + 1) (omega arith))
 
   -- a node's end is put before those of the nodes after it
-  pub ends-more : (i e : ℕ) → i < nodeRows nodes → EndsFrom nodes ends (i + 1) → TreeEnd nodes i e → EndsFrom nodes (set ends i e) i
+  pub ends-more : (i e : ℕ) → i ≤ nodeRows nodes → EndsFrom nodes ends (i + 1) → TreeEnd nodes i e → EndsFrom nodes (set ends i e) i
   ends-more i e l s t = record { room = rw (length-set ends i e) (s .room); rows = s .rows; each = λ k a b. at k a b (ℕ-discrete k i) }
     where
-      at : (k : ℕ) → i ≤ k → k ≤ nodeRows nodes → Dec (k ≡ i) → TreeEnd nodes k (getD (set ends i e) k 0)
+      at : (k : ℕ) → i ≤ k → k ≤ nodeRows nodes + 1 → Dec (k ≡ i) → TreeEnd nodes k (getD (set ends i e) k 0)
       at k a b (yes q) = rw (q, getD-set-same ends i e 0 (omega (arith, l, s .room))) t
       at k a b (no ne) = rw (getD-set-other ends i k e 0 ne) (s .each k (omega arith) b)
 
   -- a range is one tree where its first node's tree ends with it
-  pub ends-tree : (first count : ℕ) → EndsFrom nodes ends 0 → first + count ≤ nodeRows nodes → (count ≡ 0 → ⊥)
-      → eqb (getD ends first 0) (first + count) ≡ treesFrom nodes 1 first count
-  ends-tree first count s l h = sym (s .each first (omega arith) (omega arith) .exact count (omega arith) l)
+  pub ends-tree : (first count : ℕ) → EndsFrom nodes ends 0 → first + count ≤ nodeRows nodes → eqb (getD ends first 0) (first + count) ≡ treesFrom nodes 1 first count
+  ends-tree first zero s l = not-end nodes first _ (first + 0) (s .each first (omega arith) (omega arith)) (omega arith) l ∙ sym (no-rows nodes 1 first)
+  ends-tree first (suc n) s l = sym (s .each first (omega arith) (omega arith) .exact (suc n) (omega arith) l)
 
-  pub end-below : (i k : ℕ) → EndsFrom nodes ends i → i ≤ k → k ≤ nodeRows nodes → getD ends k 0 ≤ 2048
+  pub end-below : (i k : ℕ) → EndsFrom nodes ends i → i ≤ k → k ≤ nodeRows nodes + 1 → getD ends k 0 ≤ nodeLimit + 1
   end-below i k s l h = omega (arith, s .each k l h .within, s .rows)

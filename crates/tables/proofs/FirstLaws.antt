@@ -29,7 +29,7 @@ module _ {A : Type 0} (test : ℕ → Bool) (value : ℕ → A) (other : A) (n i
   first-end h = let e : n - i ≡ 0 = omega arith in rw e
 
 -- neither of two tests holds
-pub neither : (a b : Bool) → (a || b) ≡ false → (a ≡ false) × (b ≡ false)
+neither : (a b : Bool) → (a || b) ≡ false → (a ≡ false) × (b ≡ false)
 neither false b e = (refl, e)
 neither true b e = let z : _≡_ {A = ℕ} 0 1 = cc in absurd (omega arith)
 

@@ -7,14 +7,14 @@ use lib.ListN.{getD, length}
 use Rattle.tables.specs.Rows.{nodeLimit, nodeRows}
 use Rattle.tables.specs.Tree.{treesFrom}
 
--- e is the row after the tree that starts at row i; 0 where it does not end in the table
+-- e is the row after the tree that starts at row i; one past the row after the last where the tree does not end in the table
 pub record TreeEnd (nodes : List ℕ) (i e : ℕ) : Type 0 where
-  pub within : e ≤ nodeRows nodes
-  pub after : (e ≡ 0 → ⊥) → i < e
+  pub within : e ≤ nodeRows nodes + 1
+  pub after : (k : ℕ) → k ≤ i → k ≤ nodeRows nodes → k < e
   pub exact : (n : ℕ) → 0 < n → i + n ≤ nodeRows nodes → treesFrom nodes 1 i n ≡ eqb e (i + n)
 
--- the ends of the trees of row i and the rows after it, in a list that has room for one more
+-- the ends of the trees of row i and the rows after it, in a list that has room for two more
 pub record EndsFrom (nodes ends : List ℕ) (i : ℕ) : Type 0 where
-  pub room : nodeRows nodes < length ends
+  pub room : nodeRows nodes + 1 < length ends
   pub rows : nodeRows nodes ≤ nodeLimit
-  pub each : (k : ℕ) → i ≤ k → k ≤ nodeRows nodes → TreeEnd nodes k (getD ends k 0)
+  pub each : (k : ℕ) → i ≤ k → k ≤ nodeRows nodes + 1 → TreeEnd nodes k (getD ends k 0)

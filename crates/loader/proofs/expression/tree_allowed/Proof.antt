@@ -1,14 +1,17 @@
 use Prim.Native.Nat.{_+_, _-_, _≤_}
 use mathlib.Core.Path.{_≡_, refl, sym, ap, _∙_}
 use native.Mathlib.Omega.{arith}
+use Rattle.loader.specs.Children.{childrenOf}
 use Rattle.loader.specs.Expression.{treesAllowed}
+use Rattle.loader.specs.declared.children.Children.the-variants.{Count}
+use Rattle.loader.proofs.ChildrenLaws.{children-le}
 use Rattle.loader.proofs.ExpressionLaws.{pass-stop, pass-refused, pass-left, pass-end}
 use borrow.Author.Needs.{needs}
 use Rattle.loader.proofs.expression.tree_allowed.Statement.{statement}
 use Rattle.loader.proofs.expression.tree_allowed.Tie as tie
 use Rattle.loader.proofs.expression.tree_allowed.Reads as reads
 use Rattle.loader.proofs.expression.tree_allowed.Lts as lts
-use Rattle.loader.proofs.expression.trees_after.Reads as trees-after-reads
+use Rattle.loader.proofs.children.children_of.Reads as children-of-reads
 use Rattle.tables.proofs.rows.node_at.Reads as node-at-reads
 
 abbrev Inv-loop : tie.InvT-loop
@@ -26,11 +29,11 @@ returns c = sym (pass-stop (c .before .before .before .before .args .nodes .now)
 node-at-requires : tie.Need-node-at-requires Inv-loop μ-loop
 node-at-requires c κs = search needs
 
-trees-after-requires : tie.Need-trees-after-requires Inv-loop μ-loop
-trees-after-requires c κs = (omega arith, omega arith)
+children-of-requires : tie.Need-children-of-requires Inv-loop μ-loop
+children-of-requires c κs = search needs
 
-enum-known-left : tie.Need-enum-known-left Inv-loop μ-loop
-enum-known-left c = search needs
+enum-known-children : tie.Need-enum-known-children Inv-loop μ-loop
+enum-known-children c = search needs
 
 enum-told : tie.Need-enum-told Inv-loop μ-loop
 enum-told c = search needs
@@ -39,7 +42,19 @@ returns-2 : tie.Need-returns-2 Inv-loop μ-loop
 returns-2 c =
     let called = c .before .before in
     let at = called .before .before .before .before in
-    sym (pass-refused (at .before .before .args .nodes .now) _ (at .loop .i) (at .before .before .args .end) (called .before .node-at .ensures) (sym (c .enum-told .given .1) ∙ called .trees-after .ensures) (search needs)) ∙ at .loop .inv .2
+    sym (pass-refused (at .before .before .args .nodes .now) _ (at .loop .i) (at .before .before .args .end) (called .before .node-at .ensures) (sym (c .enum-told .given .1) ∙ called .children-of .ensures) (search needs)) ∙ at .loop .inv .2
+
+abbrev asked : tie.After-known-told Inv-loop μ-loop → tie.After-children-of Inv-loop μ-loop
+asked c = c .before .before .before
+
+counted : (c : tie.After-known-told Inv-loop μ-loop) → Count (c .before .children .given .0 .0) ≡ childrenOf (asked c .before .node-at .result)
+counted c = sym (c .before .children .given .1) ∙ asked c .children-of .ensures
+
+sub-trees : tie.Need-sub-trees Inv-loop μ-loop
+sub-trees c = search needs
+
+add-trees : tie.Need-add-trees Inv-loop μ-loop
+add-trees c = omega (arith, children-le _ _ (counted c))
 
 add-i : tie.Need-add-i Inv-loop μ-loop
 add-i c = search needs
@@ -49,10 +64,10 @@ loop-less c = search needs
 
 loop-again : tie.Need-loop-again Inv-loop μ-loop
 loop-again c =
-    let called = c .before .before .before in
+    let called = asked c in
     let at = called .before .before .before .before in
-    let p = pass-left (at .before .before .args .nodes .now) _ (at .loop .i) (at .before .before .args .end) _ (called .before .node-at .ensures) (sym (c .before .left .given .1) ∙ called .trees-after .ensures) (search needs) (called .before .before .if1 .left) in
-    (omega arith, omega (arith, p .0), p .1 ∙ at .loop .inv .2)
+    let p = pass-left (at .before .before .args .nodes .now) _ (at .loop .i) (at .before .before .args .end) _ (called .before .node-at .ensures) (counted c) (search needs) (called .before .before .if1 .left) in
+    (omega arith, omega (arith, children-le _ _ (counted c)), p ∙ at .loop .inv .2)
 
 returns-3 : tie.Need-returns-3 Inv-loop μ-loop
 returns-3 c = sym (pass-end (c .before .before .before .args .nodes .now) _ _ (c .before .before .before .args .end) (search needs)) ∙ c .before .loop .inv .2
@@ -66,10 +81,12 @@ tree-allowed-spec =
     loop-holds
     returns
     node-at-requires
-    trees-after-requires
-    enum-known-left
+    children-of-requires
+    enum-known-children
     enum-told
     returns-2
+    sub-trees
+    add-trees
     add-i
     loop-less
     loop-again
