@@ -6,7 +6,6 @@ use script::line::byte_at;
 use script::line::least;
 use script::line::part;
 use stepper_screen::print::byte;
-use stepper_screen::print::line;
 use stepper_screen::print::number;
 use stepper_screen::print::style;
 use stepper_screen::print::text;
@@ -41,62 +40,40 @@ fn word_text(word: &[u8]) {
     }
 }
 
-// A place's line in the texts below.
-fn place_line(place: Place) -> u64 {
-    match place {
-        Place::Name => 0,
-        Place::Kind => 1,
-        Place::ReturnKind => 2,
-        Place::Mutability => 3,
-        Place::Shape => 4,
-        Place::Tag => 5,
-        Place::Form => 6,
-        Place::Operation => 7,
-        Place::Operator => 8,
-        Place::SourceForm => 9,
-        Place::Whole => 10,
-        Place::Real => 11,
-        Place::Unused => 12,
-    }
-}
-
 fn needed(place: Place) {
-    line(
-        b"a name\n\
-        a kind\n\
-        a return kind\n\
-        mutable or immutable\n\
-        a shape\n\
-        a tag\n\
-        a form\n\
-        an operation\n\
-        the operator's number\n\
-        a source form\n\
-        a whole number\n\
-        a REAL\n\
-        -",
-        place_line(place),
-    );
+    match place {
+        Place::Name => text(b"a name"),
+        Place::Kind => text(b"a kind"),
+        Place::ReturnKind => text(b"a return kind"),
+        Place::Mutability => text(b"mutable or immutable"),
+        Place::Shape => text(b"a shape"),
+        Place::Tag => text(b"a tag"),
+        Place::Form => text(b"a form"),
+        Place::Operation => text(b"an operation"),
+        Place::Operator => text(b"the operator's number"),
+        Place::SourceForm => text(b"a source form"),
+        Place::Whole => text(b"a whole number"),
+        Place::Real => text(b"a REAL"),
+        Place::Unused => text(b"-"),
+    }
     text(b" here");
 }
 
 fn allowed(place: Place) {
-    line(
-        b": letters, digits, _ and -, a letter first\n\
-        : BIT, INTEGER, OCTET or REAL\n\
-        : BIT, INTEGER, OCTET, REAL or none\n\
-        \n\
-        : scalar, fixed or variable\n\
-        : address, function, infix, number, pi, prefix or variable\n\
-        : identifier, reference or immediate\n\
-        , such as MOVE, in capitals\n\
-        \n\
-        : integer, real, reference or none\n\
-        , without a point\n\
-        : with a point, as 0.0, or its bits as 0x..\n\
-        : this word is unused",
-        place_line(place),
-    );
+    match place {
+        Place::Name => text(b": letters, digits, _ and -, a letter first"),
+        Place::Kind => text(b": BIT, INTEGER, OCTET or REAL"),
+        Place::ReturnKind => text(b": BIT, INTEGER, OCTET, REAL or none"),
+        Place::Shape => text(b": scalar, fixed or variable"),
+        Place::Tag => text(b": address, function, infix, number, pi, prefix or variable"),
+        Place::Form => text(b": identifier, reference or immediate"),
+        Place::Operation => text(b", such as MOVE, in capitals"),
+        Place::SourceForm => text(b": integer, real, reference or none"),
+        Place::Whole => text(b", without a point"),
+        Place::Real => text(b": with a point, as 0.0, or its bits as 0x.."),
+        Place::Unused => text(b": this word is unused"),
+        _ => (),
+    }
 }
 
 fn mnemonic(family: u64, operator: u64) {
@@ -137,47 +114,16 @@ fn fault_text(fault: Fault, word: &[u8]) {
 }
 
 fn row_text(table: Table) {
-    line(
-        b"3 words: name, kind, length\n\
-        4 words: name, return kind, first parameter, how many\n\
-        5 words: name, mutable or immutable, shape, kind, length\n\
-        3 words: tag and two words, - where one is unused\n\
-        3 words: form and two words, - where one is unused\n\
-        8 words: operation, two and two for operands, source form and two",
-        table.number() as u64,
-    );
-}
-
-// A trouble's line in the text below, where the trouble alone says it.
-fn trouble_line(trouble: Trouble) -> u64 {
-    match trouble {
-        Trouble::NotAlone => 0,
-        Trouble::NamesAreTexts => 1,
-        Trouble::NamesAreNumbers => 2,
-        Trouble::Count => 3,
-        Trouble::NoHeading => 4,
-        Trouble::TooManyRows => 5,
-        Trouble::TooManyNames => 6,
-        _ => 7,
+    match table {
+        Table::Regions => text(b"3 words: name, kind, length"),
+        Table::Externs => text(b"4 words: name, return kind, first parameter, how many"),
+        Table::Parameters => text(b"5 words: name, mutable or immutable, shape, kind, length"),
+        Table::Nodes => text(b"3 words: tag and two words, - where one is unused"),
+        Table::Arguments => text(b"3 words: form and two words, - where one is unused"),
+        Table::Instructions => {
+            text(b"8 words: operation, two and two for operands, source form and two")
+        }
     }
-}
-
-// The first three begin with the word.
-fn line_text(place: u64, word: &[u8]) {
-    if place < 3 {
-        word_text(word);
-    }
-    line(
-        b": a heading stands alone and is no name; write rows below it\n\
-        : names are texts in this file; write this one's text\n\
-        : names are numbers in this file; write this one's number\n\
-        too many or too few words; docs/FORMAT.md has the line's\n\
-        a row before any table's heading; write one above it, such as regions\n\
-        the table has no room for more rows; write fewer\n\
-        more than 1024 names; write each as a number\n\
-        names are texts in this file; write rows, and no word line",
-        place,
-    );
 }
 
 fn trouble_text(trouble: Trouble, word: &[u8]) {
@@ -187,7 +133,26 @@ fn trouble_text(trouble: Trouble, word: &[u8]) {
             text(b"write ");
             row_text(table)
         }
-        _ => line_text(trouble_line(trouble), word),
+        Trouble::Count => text(b"too many or too few words; docs/FORMAT.md has the line's"),
+        Trouble::NoHeading => {
+            word_text(word);
+            text(b": a row before any table's heading; write one above it, such as regions")
+        }
+        Trouble::NotAlone => {
+            word_text(word);
+            text(b": a heading stands alone and is no name; write rows below it")
+        }
+        Trouble::TooManyRows => text(b"the table has no room for more rows; write fewer"),
+        Trouble::TooManyNames => text(b"more than 1024 names; write each as a number"),
+        Trouble::NamesAreTexts => {
+            word_text(word);
+            text(b": names are texts in this file; write this one's text")
+        }
+        Trouble::NamesAreNumbers => {
+            word_text(word);
+            text(b": names are numbers in this file; write this one's number")
+        }
+        Trouble::LooseWords => text(b"names are texts in this file; write rows, and no word line"),
     }
 }
 
