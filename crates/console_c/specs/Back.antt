@@ -4,7 +4,8 @@ use mathlib.Core.List.{List}
 use Rattle.tables.specs.Tables.{Tables}
 use Rattle.session.specs.Answer.{stepNumber}
 use Rattle.session_back.specs.Back.{Back, backTables}
-use Rattle.console_c.specs.Position.{positionIn, positionAfter}
+use Rattle.console_words.specs.Position.{positionIn}
+use Rattle.console_c.specs.Position.{positionAfter}
 
 -- the number returned, and memory and the position at exit
 pub record WentBackWords : Type 0 where

@@ -4,7 +4,8 @@ use mathlib.Core.List.{List}
 use Rattle.tables.specs.Tables.{Tables}
 use Rattle.session.specs.Answer.{stepNumber}
 use Rattle.session_forward.specs.Forward.{Left, forwardTables}
-use Rattle.console_c.specs.Position.{positionIn, positionAfter}
+use Rattle.console_words.specs.Position.{positionIn}
+use Rattle.console_c.specs.Position.{positionAfter}
 
 -- the number returned, and the lent words and the position at exit
 pub record ForwardedWords : Type 0 where

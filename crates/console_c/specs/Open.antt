@@ -8,7 +8,7 @@ use Rattle.session.specs.Answer.{openNumber}
 use Rattle.session_open.specs.Open.{Opening, openTables}
 use Rattle.session.specs.declared.answer.OpenAnswer.{OpenAnswer}
 use Rattle.session.specs.declared.answer.OpenAnswer.the-variants.{Opened, Refused, Error}
-use Rattle.console_c.specs.Position.{positionWords}
+use Rattle.console_words.specs.Position.{positionWords}
 
 -- the number returned, and memory and the two out-arrays at exit
 pub record OpenedWords : Type 0 where

@@ -1,17 +1,10 @@
--- A position's two words: steps done, entries used.
+-- The position after a step.
 use Prim.Native.Nat.{ℕ}
-use mathlib.Core.List.{List, [], _∷_}
-use lib.ListN.{getD}
+use mathlib.Core.List.{List}
 use lib.Seq.{sets}
-use Rattle.journal.specs.declared.position.Position.{Position}
 use Rattle.session.specs.declared.answer.StepAnswer.{StepAnswer}
 use Rattle.session.specs.declared.answer.StepAnswer.the-variants.{Moved, Refused}
-
-abbrev pub positionIn : List ℕ → Position
-positionIn position = record { done = getD position 0 0; used = getD position 1 0 }
-
-abbrev pub positionWords : Position → List ℕ
-positionWords p = p .done ∷ p .used ∷ []
+use Rattle.console_words.specs.Position.{positionWords}
 
 -- "on 0 the new one"
 abbrev pub positionAfter : StepAnswer → List ℕ → List ℕ

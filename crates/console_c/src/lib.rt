@@ -4,7 +4,6 @@ pub mod back;
 pub mod check;
 pub mod forward;
 pub mod open;
-pub mod position;
 pub mod reference;
 pub mod references;
 pub mod resolve;

@@ -2,9 +2,9 @@ ghost use mathlib.Core.Path.{_≡_};
 ghost use lib.ListN.{length};
 ghost use Rattle.tables.specs.Tables.{tablesOf};
 ghost use Rattle.console_c.specs.Open.{openedWords, consoleOpen};
-use crate::check::write_error;
-use crate::position::write_position;
 use console_session::open::open;
+use console_words::error::write_error;
+use console_words::position::write_position;
 use session::answer::OpenAnswer;
 use tables::refusal::TYPE_ERROR;
 

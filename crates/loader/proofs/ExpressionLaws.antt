@@ -4,18 +4,17 @@ use mathlib.Core.Bool.{Bool, true, false, not, cond, _&&_}
 use mathlib.Core.List.{List}
 use mathlib.Core.Path.{_≡_, refl, sym, ap, _∙_}
 use native.Mathlib.Omega.{arith}
-use lib.Dec.{eqb, leb}
-use borrow.Author.Tests.{eqb-true, le-leb}
+use lib.Dec.{eqb}
+use borrow.Author.Tests.{le-leb}
 use Rattle.tables.specs.First.{first, everyFrom, every}
-use Rattle.tables.specs.NodeTag as tag
 use Rattle.tables.specs.Refusal.{wordNotAllowed}
 use Rattle.tables.specs.Rows.{nodeWidth, nodeLimit, nodeRows, nodeTag, nodeAt}
 use Rattle.tables.specs.Tree.{arityOf, treesFrom, inside, oneTree}
 use Rattle.tables.specs.Outcome.{_>>_, need}
 use Rattle.tables.specs.declared.rows.Node.{Node}
 use Rattle.tables.proofs.FirstLaws.{first-hit, first-miss, first-end}
-use Rattle.tables.proofs.TreeLaws.{arity-le, trees-stop, trees-step, trees-end}
-use Rattle.loader.proofs.Loaded.{both}
+use Rattle.tables.proofs.TreeLaws.{trees-stop, trees-step, trees-end}
+use Rattle.loader.proofs.Loaded.{and-false}
 use Rattle.loader.specs.Shape.{wholeRows}
 use Rattle.loader.specs.Load.{loadNodesLook}
 use Rattle.loader.specs.Allowed.{nodeAllowed, nodesAllowedFrom, nodesAllowed}
@@ -23,10 +22,6 @@ use Rattle.loader.specs.Children.{childrenOf}
 use Rattle.loader.specs.Expression.{treesAllowed}
 use Rattle.loader.specs.declared.children.Children.the-variants.{Count, Refused}
 use Rattle.loader.proofs.ChildrenLaws.{children-count, children-refused}
-
-pub and-false : (b : Bool) → (b && false) ≡ false
-and-false true = refl
-and-false false = refl
 
 module _ (nodes : List ℕ) (trees i n : ℕ) where
   -- the pass stops where no tree is left

@@ -25,6 +25,10 @@ both true true e = (refl, refl)
 both true false e = never e
 both false b e = never e
 
+pub and-false : (b : Bool) → (b && false) ≡ false
+and-false true = refl
+and-false false = refl
+
 -- a look that was passed
 pub passed : {B : Type 0} (t : Bool) (n : ℕ) (s : Outcome B) (b : B) → (need t n >> s) ≡ ok b → (t ≡ true) × (s ≡ ok b)
 unfolding _>>_ need

@@ -6,5 +6,6 @@ use Rattle.loader.specs.Allowed.{nodeAllowed}
 use Rattle.loader.specs.declared.children.Children.{Children}
 use Rattle.loader.specs.declared.children.Children.the-variants.{Count, Refused}
 
+-- how many children a node has; refused where its words are
 abbrev pub childrenOf : Node → Children
 childrenOf x = cond (nodeAllowed x) (Count (arityOf (x .tag))) Refused

@@ -33,6 +33,7 @@ fn extern_allowed(x: Extern, parameters: usize) -> bool
         & tables::tree::range_inside(x.first_parameter, x.parameter_count, parameters)
 }
 
+// By branches, for speed.
 fn parameter_allowed(x: Parameter) -> bool
     ensures { λ r. ⌜ r ≡ parameterAllowed x ⌝ }
 {

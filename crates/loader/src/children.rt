@@ -12,7 +12,7 @@ pub enum Children {
     Refused,
 }
 
-// A node without words is told first, and among those an infix, for speed: most are one.
+// For speed a node without words comes first, and of those an infix, of which most expressions are made.
 pub fn children_of(x: Node) -> Children
     ensures { λ r. ⌜ r ≡ childrenOf x ⌝ }
 {

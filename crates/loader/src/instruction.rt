@@ -23,6 +23,9 @@ use tables::tree::range_inside;
 // More than that many nodes take the room for all.
 const FEW_NODES: usize = 64;
 
+// What an end is before it is found: no 0, since to clear the room would be a call of memset, and the library calls nothing.
+const UNSET: u16 = 1;
+
 // A word that is not used.
 const UNUSED: u64 = 0;
 
@@ -136,16 +139,15 @@ fn allowed_with_few_nodes(instructions: &[u64], nodes: &[u64], arguments: usize)
     requires { ⌜ nodeRows (now nodes) < 64 ⌝ }
     ensures { λ r. ⌜ r ≡ (nodesAllowed (now (nodes .entry)) && instructionsAllowed (now (nodes .entry)) arguments (now (instructions .entry))) ⌝ }
 {
-    let mut ends = [1; FEW_NODES + 1];
+    let mut ends = [UNSET; FEW_NODES + 1];
     allowed_with_ends(instructions, nodes, &mut ends, arguments)
 }
 
-// The room is filled with ones, since zeros would be a call of memset, and the library calls nothing.
 fn allowed_with_many_nodes(instructions: &[u64], nodes: &[u64], arguments: usize) -> bool
     requires { ⌜ nodeRows (now nodes) ≤ nodeLimit ⌝ }
     ensures { λ r. ⌜ r ≡ (nodesAllowed (now (nodes .entry)) && instructionsAllowed (now (nodes .entry)) arguments (now (instructions .entry))) ⌝ }
 {
-    let mut ends = [1; NODE_LIMIT + 2];
+    let mut ends = [UNSET; NODE_LIMIT + 2];
     allowed_with_ends(instructions, nodes, &mut ends, arguments)
 }
 

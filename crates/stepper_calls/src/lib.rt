@@ -1,6 +1,7 @@
-// The public calls on the tables as the terminal holds them; what needs little beside a call.
+// The public calls on the tables as the terminal holds them; by them a step, the type check's verdict in words, the first CALL that does not resolve.
 pub mod bad_call;
 pub mod step;
+pub mod verdict;
 
 use access_sets::access::AccessAnswer;
 use console::access::access;

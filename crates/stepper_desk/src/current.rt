@@ -1,7 +1,7 @@
 // A row of the program: its words, whether it is a CALL, its line as on the screen.
 use crate::state::Desk;
-use stepper_screen::print::byte;
-use stepper_screen::program::row_line;
+use stepper_lines::print::byte;
+use stepper_lines::program::row_line;
 use stepper_tables::file::TABLE_WORDS;
 use stepper_tables::held::table;
 use stepper_words::heading::Table;

@@ -1,9 +1,9 @@
 // Lines from standard input.
 use libc::STDIN_FILENO;
 use script::line::part;
-use stepper_screen::print::byte;
-use stepper_screen::print::text;
-use stepper_screen::view::View;
+use stepper_lines::print::byte;
+use stepper_lines::print::text;
+use stepper_lines::view::View;
 
 pub const LINE: usize = 256;
 

@@ -2,8 +2,8 @@
 use crate::state::Desk;
 use script::line::byte_at;
 use script::line::word_at;
-use stepper_screen::print::style;
-use stepper_screen::print::text;
+use stepper_lines::print::style;
+use stepper_lines::print::text;
 
 // What a key asks for. The empty line is forward.
 pub enum Key {

@@ -9,7 +9,7 @@ use journal::cells::CELL_WIDTH;
 use journal::entries::ENTRY_WIDTH;
 use script::line::least;
 use script::line::part;
-use stepper_screen::print::text;
+use stepper_lines::print::text;
 use stepper_tables::file::Memory;
 use stepper_tables::file::Reader;
 use stepper_tables::file::TABLE_WORDS;

@@ -1,6 +1,6 @@
 // What the terminal holds beside its buffers.
 use journal::position::Position;
-use stepper_screen::view::View;
+use stepper_lines::view::View;
 use stepper_tables::file::TABLES;
 
 pub const MEMORY_WORDS: usize = 8200;

@@ -5,10 +5,10 @@ use script::line::Word;
 use script::line::byte_at;
 use script::line::least;
 use script::line::part;
-use stepper_screen::print::byte;
-use stepper_screen::print::number;
-use stepper_screen::print::style;
-use stepper_screen::print::text;
+use stepper_lines::print::byte;
+use stepper_lines::print::number;
+use stepper_lines::print::style;
+use stepper_lines::print::text;
 use stepper_tables::file::Reader;
 use stepper_tables::row::Trouble;
 use stepper_tables::word::Fault;
@@ -72,7 +72,7 @@ fn allowed(place: Place) {
         Place::Whole => text(b", without a point"),
         Place::Real => text(b": with a point, as 0.0, or its bits as 0x.."),
         Place::Unused => text(b": this word is unused"),
-        _ => (),
+        _ => {}
     }
 }
 
@@ -136,7 +136,7 @@ fn trouble_text(trouble: Trouble, word: &[u8]) {
         Trouble::Count => text(b"too many or too few words; docs/FORMAT.md has the line's"),
         Trouble::NoHeading => {
             word_text(word);
-            text(b": a row before any table's heading; write one above it, such as regions")
+            text(b": stands before any table's heading; write one above it, such as regions")
         }
         Trouble::NotAlone => {
             word_text(word);

@@ -15,16 +15,15 @@ use stepper_desk::state::Desk;
 use stepper_desk::state::JOURNAL_WORDS;
 use stepper_desk::state::MEMORY_WORDS;
 use stepper_desk::state::State;
-use stepper_reply::errors::RESOLVE_WORDS;
-use stepper_reply::errors::type_error;
-use stepper_reply::reply::REPLY_WORDS;
-use stepper_reply::reply::Reply;
-use stepper_reply::reply::ask_reply;
-use stepper_screen::print::text;
-use stepper_screen::refusal::refused;
+use stepper_lines::print::text;
+use stepper_lines::refusal::refused;
 use stepper_tables::file::TABLE_WORDS;
-use stepper_tables::held::front;
 use stepper_tables::held::table;
+use stepper_told::errors::RESOLVE_WORDS;
+use stepper_told::errors::type_error;
+use stepper_told::reply::REPLY_WORDS;
+use stepper_told::reply::Reply;
+use stepper_told::reply::ask_reply;
 use stepper_words::heading::Table;
 use stepper_words::names::NAME_WORDS;
 use tables::refusal::TYPE_ERROR;
@@ -105,6 +104,12 @@ fn reply_for(
         return ask_reply(&rows, count, reply, desk.view);
     }
     Reply::Words(0)
+}
+
+// The first words, as many as there are.
+fn front(words: &[u64], length: usize) -> &[u64] {
+    let end = least(length, words.len());
+    &words[0..end]
 }
 
 fn reply_words(reply: &[u64; REPLY_WORDS], length: usize) -> &[u64] {

@@ -1,4 +1,4 @@
 // The page of refusals, as the console shows it for `refusals` and the key p.
 fn main() {
-    stepper_screen::page::page();
+    stepper_lines::page::page();
 }

@@ -1,9 +1,8 @@
-// What the console writes of values, rows and refusals, as text for any terminal or pipe.
-pub mod help;
-pub mod line;
-pub mod page;
-pub mod print;
-pub mod program;
-pub mod quil;
-pub mod refusal;
-pub mod view;
+// What the console shows: the screen, with the rows, the regions, their cells and what the last step changed; the names that a row reaches; the tables as words.
+pub mod cells;
+pub mod changes;
+pub mod named;
+pub mod regions;
+pub mod screen;
+pub mod sets;
+pub mod table_words;

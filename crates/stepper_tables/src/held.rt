@@ -12,9 +12,3 @@ pub fn table(tables: &[u64], which: Table, lengths: [usize; TABLES]) -> &[u64] {
     let end = first + least(lengths[number], room);
     &tables[first..end]
 }
-
-// The first words, as many as there are.
-pub fn front(words: &[u64], length: usize) -> &[u64] {
-    let end = least(length, words.len());
-    &words[0..end]
-}

@@ -7,7 +7,7 @@ use lib.ListN.{getD, length}
 use Rattle.tables.specs.Rows.{nodeLimit, nodeRows}
 use Rattle.tables.specs.Tree.{treesFrom}
 
--- e is the row after the tree that starts at row i; one past the row after the last where the tree does not end in the table
+-- e is the row after the tree that starts at row i, or one past the row after the last, where the tree does not end in the table: past row i in any case, but for an i past the table
 pub record TreeEnd (nodes : List ℕ) (i e : ℕ) : Type 0 where
   pub within : e ≤ nodeRows nodes + 1
   pub after : (k : ℕ) → k ≤ i → k ≤ nodeRows nodes → k < e

@@ -6,7 +6,7 @@ use Rattle.console_c.proofs.check.console_check.Tie as tie
 use Rattle.console_c.proofs.check.console_check.Reads as reads
 use Rattle.console_c.proofs.check.console_check.Lts as lts
 use Rattle.console.proofs.check.check.Reads as check-reads
-use Rattle.console_c.proofs.check.write_error.Reads as write-error-reads
+use Rattle.console_words.proofs.error.write_error.Reads as write-error-reads
 
 check-requires : tie.Need-check-requires
 check-requires c κs = search needs

@@ -1,0 +1,23 @@
+// A position's two words.
+ghost use mathlib.Core.Path.{_≡_};
+ghost use Prim.Native.Nat.{ℕ};
+ghost use mathlib.Core.List.{List, [], _∷_};
+ghost use lib.Seq.{sets};
+ghost use Rattle.console_words.specs.Position.{positionIn, positionWords};
+use journal::position::Position;
+
+pub fn position_in(position: &[u64; 2]) -> Position
+    ensures { λ r. ⌜ r ≡ positionIn (now (position .entry)) ⌝ }
+{
+    Position {
+        done: position[0] as usize,
+        used: position[1] as usize,
+    }
+}
+
+pub fn write_position(position: &mut [u64; 2], p: Position)
+    ensures { λ _. ⌜ now (position .exit) ≡ sets (now (position .entry)) 0 (positionWords p) ⌝ }
+{
+    position[0] = p.done as u64;
+    position[1] = p.used as u64;
+}

@@ -1,8 +1,0 @@
-// What the console shows: the screen, with the rows, the regions, their cells and what the last step changed; the names that a row reaches; the tables as words.
-pub mod cells;
-pub mod changes;
-pub mod named;
-pub mod regions;
-pub mod screen;
-pub mod sets;
-pub mod table_words;
