@@ -136,7 +136,7 @@ fn trouble_text(trouble: Trouble, word: &[u8]) {
         Trouble::Count => text(b"too many or too few words; docs/FORMAT.md has the line's"),
         Trouble::NoHeading => {
             word_text(word);
-            text(b": stands before any table's heading; write one above it, such as regions")
+            text(b": no heading stands above it; write one, such as regions")
         }
         Trouble::NotAlone => {
             word_text(word);
