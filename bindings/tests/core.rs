@@ -74,7 +74,7 @@ fn sizes_of_rows() {
 fn words_of_cases() {
     cases_in!("words/src/kind.rt", "KIND": Kind in 0..4);
     cases_in!("words/src/kind.rt", "CODE": Code in 4..6);
-    cases_in!("type_check/src/code.rt", "CODE": Code in 6..12);
+    cases_in!("type_rules/src/code.rt", "CODE": Code in 6..12);
     cases_in!("tables/src/operator.rt", "OPERATOR": ArithmeticOperator in 0..4, ComparisonOperator in 0..5);
     cases_in!("tables/src/operator.rt", "OPERATOR": BinaryOperator in 0..6, UnaryOperator in 0..2);
     cases_in!("tables/src/operator.rt", "OPERATOR": FrameOperator in 0..5);

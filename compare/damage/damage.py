@@ -149,7 +149,7 @@ def cases(options):
     for i, data in enumerate(EDGES):
         yield f'edge {i}', data
     files = [*sorted((ROOT / 'examples').glob('*.tables')),
-             ROOT / 'crates/stepper/data/exercise.tables', ROOT / 'crates/stepper_examples/data/counts.tables']
+             ROOT / 'crates/stepper/data/exercise.tables', ROOT / 'crates/stepper/data/counts.tables']
     for file in files:
         rng = random.Random(f'{options.seed} {file.name}')
         whole = file.read_bytes()

@@ -8,10 +8,10 @@ use borrow.Author.Tests.{ltb-true, ltb-false}
 use lib.Dec.{ltb}
 use lib.ListN.{length}
 use Rattle.tables.specs.Rows.{argumentAt}
-use Rattle.extern_call.specs.Argument.{argumentOf, argumentNames}
+use Rattle.call_argument.specs.Argument.{argumentOf, argumentNames}
 use Rattle.extern_call.specs.Call.{expectedCount, Ranges, Paired}
-use Rattle.extern_call.specs.declared.argument.UnresolvedCallArgument.{UnresolvedCallArgument}
-use Rattle.extern_call.specs.declared.argument.UnresolvedCallArgument.the-variants as U
+use Rattle.call_argument.specs.declared.argument.UnresolvedCallArgument.{UnresolvedCallArgument}
+use Rattle.call_argument.specs.declared.argument.UnresolvedCallArgument.the-variants as U
 use Rattle.extern_call.specs.declared.call.ExternCall.{ExternCall}
 use Rattle.access_sets.specs.Access.{namesIn, listedAt, namesAt, pairedCount}
 use Rattle.access_sets.specs.declared.access.Access.{Access}

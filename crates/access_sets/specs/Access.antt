@@ -10,7 +10,7 @@ use Rattle.tables.specs.Outcome.{Outcome, ok, refuse, _>>=_, _>>_, need}
 use Rattle.tables.specs.Rows.{parameterAt, argumentAt}
 use Rattle.tables.specs.declared.rows.Argument.{Argument}
 use Rattle.tables.specs.declared.rows.Instruction.{Instruction}
-use Rattle.extern_call.specs.Argument.{argumentOf, argumentNames}
+use Rattle.call_argument.specs.Argument.{argumentOf, argumentNames}
 use Rattle.extern_call.specs.Gather.{gather}
 use Rattle.extern_call.specs.Call.{findCall, expectedCount, placeOf}
 use Rattle.extern_call.specs.declared.call.ExternCall.{ExternCall}

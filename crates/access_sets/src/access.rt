@@ -10,8 +10,8 @@ ghost use Rattle.extern_call.specs.Call.{expectedCount, Ranges, Paired, CallRan
 ghost use Rattle.access_sets.specs.Set.{inserted, insertAll, Ascending};
 ghost use Rattle.access_sets.specs.Inner.{Listed, below};
 ghost use Rattle.access_sets.specs.Access.{namesIn, writtenAt, listedAt, namesAt, pairedCount, accessOf, accessing, accessCall};
-use extern_call::argument::UnresolvedCallArgument;
-use extern_call::argument::decode;
+use call_argument::argument::UnresolvedCallArgument;
+use call_argument::argument::decode;
 use extern_call::call::ExternCall;
 use extern_call::call::FoundCall;
 use extern_call::call::Place;

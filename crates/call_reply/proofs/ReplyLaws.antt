@@ -17,13 +17,13 @@ use Rattle.tables.specs.declared.lookup.Found.{Found}
 use Rattle.tables.specs.declared.lookup.Found.the-variants.{At, Nothing}
 use Rattle.tables.specs.declared.rows.Instruction.{Instruction}
 use Rattle.tables.proofs.FirstLaws.{every-row}
-use Rattle.loader.proofs.Loaded.{both, passed}
+use Rattle.tables.proofs.Passed.{both, passed}
 use Rattle.extern_call.specs.Call.{resolutionAt, resolvesCall, CallRanges, Counted, Paired}
 use Rattle.extern_call.specs.declared.call.ExternCall.{ExternCall}
 use Rattle.extern_call.specs.declared.call.CallResolution.{CallResolution}
 use Rattle.extern_call.specs.declared.call.CallResolution.the-variants as C
-use Rattle.extern_call.specs.declared.resolved.ResolvedCallArgument.{ResolvedCallArgument}
-use Rattle.extern_call.specs.declared.resolved.ResolvedCallArgument.the-variants.{Vector, MemoryReference, Immediate}
+use Rattle.call_argument.specs.declared.resolved.ResolvedCallArgument.{ResolvedCallArgument}
+use Rattle.call_argument.specs.declared.resolved.ResolvedCallArgument.the-variants.{Vector, MemoryReference, Immediate}
 use Rattle.extern_call.proofs.CallLaws.{counted-paired}
 use Rattle.extern_call.proofs.ResolvedLaws.{Facts, resolved-facts}
 use Rattle.extern_call.proofs.ResolvesLaws.{Resolvable, resolves-ok, resolvable-counted}

@@ -11,8 +11,8 @@ use Rattle.extern_call.specs.Call.{resolutionAt, Counted, Paired}
 use Rattle.extern_call.specs.declared.call.ExternCall.{ExternCall}
 use Rattle.extern_call.specs.declared.call.CallResolution.{CallResolution}
 use Rattle.extern_call.specs.declared.call.CallResolution.the-variants.{Resolved, Failed}
-use Rattle.extern_call.specs.declared.resolved.ResolvedCallArgument.{ResolvedCallArgument}
-use Rattle.extern_call.specs.declared.resolved.ResolvedCallArgument.the-variants.{Vector, MemoryReference, Immediate}
+use Rattle.call_argument.specs.declared.resolved.ResolvedCallArgument.{ResolvedCallArgument}
+use Rattle.call_argument.specs.declared.resolved.ResolvedCallArgument.the-variants.{Vector, MemoryReference, Immediate}
 use Rattle.operands.specs.Reach.{Laid}
 use Rattle.call_reply.specs.Call.{replyRows, scalarsFit, replyRowFits}
 

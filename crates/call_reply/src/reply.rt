@@ -2,7 +2,7 @@
 ghost use mathlib.Core.Path.{_≡_};
 ghost use Prim.Native.Nat.{_<_};
 ghost use Rattle.call_reply.specs.Call.{replyRows, replyAt, replyLengthFits, fitsRow, hits};
-use extern_call::resolved::ResolvedCallArgument;
+use call_argument::resolved::ResolvedCallArgument;
 use words::kind;
 
 // Words in a row, and the limit in rows.

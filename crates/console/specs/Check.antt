@@ -4,8 +4,8 @@ use Rattle.tables.specs.Refusal.{typeError}
 use Rattle.tables.specs.Tables.{Tables}
 use Rattle.loader.specs.Load.{loadLook}
 use Rattle.type_check.specs.Check.{checkOf}
-use Rattle.type_check.specs.declared.error.Verdict.{Verdict}
-use Rattle.type_check.specs.declared.error.Verdict.the-variants as T
+use Rattle.type_rules.specs.declared.error.Verdict.{Verdict}
+use Rattle.type_rules.specs.declared.error.Verdict.the-variants as T
 use Rattle.console.specs.Answer.{after}
 use Rattle.console.specs.declared.check.CheckAnswer.{CheckAnswer}
 use Rattle.console.specs.declared.check.CheckAnswer.the-variants.{Accepted, Refused, Error}

@@ -4,9 +4,9 @@ ghost use Rattle.tables.specs.Tables.{tablesOf};
 ghost use Rattle.console.specs.Check.{verdictAnswer, checkTables};
 use loader::load::load_tables;
 use tables::look::Look;
-use type_check::error::TypeError;
-use type_check::error::Verdict;
 use type_check::program::check_program;
+use type_rules::error::TypeError;
+use type_rules::error::Verdict;
 
 // Accepted, a refusal by its number, or 5 with the first type error.
 pub enum CheckAnswer {

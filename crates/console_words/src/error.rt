@@ -3,7 +3,7 @@ ghost use mathlib.Core.Path.{_≡_};
 ghost use mathlib.Core.List.{List, [], _∷_};
 ghost use lib.Seq.{sets};
 ghost use Rattle.type_check.specs.Check.{errorWords};
-use type_check::error::TypeError;
+use type_rules::error::TypeError;
 
 pub fn write_error(error: &mut [u64; 6], e: TypeError)
     ensures { λ _. ⌜ now (error .exit) ≡ sets (now (error .entry)) 0 (errorWords e) ⌝ }

@@ -12,18 +12,18 @@ use Rattle.tables.specs.declared.lookup.Found.{Found}
 use Rattle.tables.specs.declared.lookup.Found.the-variants.{At, Nothing}
 use Rattle.tables.specs.declared.rows.Argument.{Argument}
 use Rattle.tables.specs.declared.rows.Parameter.{Parameter}
-use Rattle.loader.proofs.Loaded.{both}
-use Rattle.extern_call.specs.Argument.{argumentOf, argumentNames}
-use Rattle.extern_call.specs.Vectors.{sameVector, declaredVector, expectedVector}
-use Rattle.extern_call.specs.Resolve.{declared, scalarOf, fixedOf, variableOf, identifierOf, byArgument, resolveArgument, byReturn, resolveReturn}
+use Rattle.tables.proofs.Passed.{both}
+use Rattle.call_argument.specs.Argument.{argumentOf, argumentNames}
+use Rattle.call_argument.specs.Vectors.{sameVector, declaredVector, expectedVector}
+use Rattle.call_argument.specs.Resolve.{declared, scalarOf, fixedOf, variableOf, identifierOf, byArgument, resolveArgument, byReturn, resolveReturn}
 use Rattle.extern_call.specs.Call.{placeOf, ofReturn, ofParameter, resolutionFor, resolutionAt}
-use Rattle.extern_call.specs.declared.vector.Vector.{Vector}
-use Rattle.extern_call.specs.declared.argument.UnresolvedCallArgument.{UnresolvedCallArgument}
-use Rattle.extern_call.specs.declared.argument.UnresolvedCallArgument.the-variants.{Identifier, Reference, Immediate}
-use Rattle.extern_call.specs.declared.resolved.ResolvedCallArgument.{ResolvedCallArgument}
-use Rattle.extern_call.specs.declared.resolved.ResolvedCallArgument.the-variants as R
-use Rattle.extern_call.specs.declared.resolve.Resolution.{Resolution}
-use Rattle.extern_call.specs.declared.resolve.Resolution.the-variants as N
+use Rattle.call_argument.specs.declared.vector.Vector.{Vector}
+use Rattle.call_argument.specs.declared.argument.UnresolvedCallArgument.{UnresolvedCallArgument}
+use Rattle.call_argument.specs.declared.argument.UnresolvedCallArgument.the-variants.{Identifier, Reference, Immediate}
+use Rattle.call_argument.specs.declared.resolved.ResolvedCallArgument.{ResolvedCallArgument}
+use Rattle.call_argument.specs.declared.resolved.ResolvedCallArgument.the-variants as R
+use Rattle.call_argument.specs.declared.resolve.Resolution.{Resolution}
+use Rattle.call_argument.specs.declared.resolve.Resolution.the-variants as N
 use Rattle.extern_call.specs.declared.call.ExternCall.{ExternCall}
 use Rattle.extern_call.specs.declared.call.Place.{Place}
 use Rattle.extern_call.specs.declared.call.Place.the-variants as P

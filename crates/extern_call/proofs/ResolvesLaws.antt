@@ -10,13 +10,13 @@ use lib.Seq.{getD-append-add}
 use Rattle.tables.specs.Refusal.{argumentCount, argumentErrors}
 use Rattle.tables.specs.Outcome.{Outcome, ok, refuse, _>>=_, _>>_, need}
 use Rattle.tables.specs.declared.rows.Instruction.{Instruction}
-use Rattle.loader.proofs.Loaded.{passed}
+use Rattle.tables.proofs.Passed.{passed}
 use Rattle.tables.proofs.FirstLaws.{every-row}
 use Rattle.extern_call.specs.Call.{findCall, expectedCount, isCounted, isResolved, resolutionAt, allResolve, resolvesCall, CallRanges, Counted}
-use Rattle.extern_call.specs.Resolved.{resolvedRow}
+use Rattle.call_argument.specs.Resolved.{resolvedRow}
 use Rattle.extern_call.specs.Gather.{gather, flat}
 use Rattle.extern_call.specs.Rows.{resolvedIn, resolvedArguments}
-use Rattle.extern_call.specs.declared.resolved.ResolvedCallArgument.{ResolvedCallArgument}
+use Rattle.call_argument.specs.declared.resolved.ResolvedCallArgument.{ResolvedCallArgument}
 use Rattle.extern_call.specs.declared.call.ExternCall.{ExternCall}
 use Rattle.extern_call.specs.declared.call.CallResolution.{CallResolution}
 use Rattle.extern_call.specs.declared.call.CallResolution.the-variants.{Resolved, Failed}

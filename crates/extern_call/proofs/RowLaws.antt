@@ -4,16 +4,16 @@ use mathlib.Core.Path.{_≡_, refl}
 use mathlib.Core.List.{append-nil}
 use native.Mathlib.Omega.{arith}
 use lib.ListN.{length}
-use Rattle.extern_call.specs.Errors.{argumentErrorWords, errorRow}
-use Rattle.extern_call.specs.Resolved.{resolvedRow}
+use Rattle.call_argument.specs.Errors.{argumentErrorWords, errorRow}
+use Rattle.call_argument.specs.Resolved.{resolvedRow}
 use Rattle.extern_call.specs.Gather.{flat}
 use Rattle.extern_call.specs.Rows.{errorIn, resolvedIn}
-use Rattle.extern_call.specs.declared.error.CallArgumentResolutionError.{CallArgumentResolutionError}
-use Rattle.extern_call.specs.declared.error.CallArgumentResolutionError.the-variants.{UndeclaredMemoryReference, MismatchedVector, MismatchedScalar, InvalidVectorArgument, ReturnArgument, ImmediateArgumentForMutable}
-use Rattle.extern_call.specs.declared.error.CallArgumentError.{CallArgumentError}
-use Rattle.extern_call.specs.declared.error.CallArgumentError.the-variants.{Return, Argument}
-use Rattle.extern_call.specs.declared.resolved.ResolvedCallArgument.{ResolvedCallArgument}
-use Rattle.extern_call.specs.declared.resolved.ResolvedCallArgument.the-variants as R
+use Rattle.call_argument.specs.declared.error.CallArgumentResolutionError.{CallArgumentResolutionError}
+use Rattle.call_argument.specs.declared.error.CallArgumentResolutionError.the-variants.{UndeclaredMemoryReference, MismatchedVector, MismatchedScalar, InvalidVectorArgument, ReturnArgument, ImmediateArgumentForMutable}
+use Rattle.call_argument.specs.declared.error.CallArgumentError.{CallArgumentError}
+use Rattle.call_argument.specs.declared.error.CallArgumentError.the-variants.{Return, Argument}
+use Rattle.call_argument.specs.declared.resolved.ResolvedCallArgument.{ResolvedCallArgument}
+use Rattle.call_argument.specs.declared.resolved.ResolvedCallArgument.the-variants as R
 use Rattle.extern_call.specs.declared.call.CallResolution.{CallResolution}
 use Rattle.extern_call.specs.declared.call.CallResolution.the-variants.{Resolved, Failed}
 

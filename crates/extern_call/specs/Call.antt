@@ -14,10 +14,10 @@ use Rattle.tables.specs.declared.lookup.Found.{Found}
 use Rattle.tables.specs.declared.lookup.Found.the-variants.{At, Nothing}
 use Rattle.tables.specs.declared.rows.Extern.{Extern}
 use Rattle.tables.specs.declared.rows.Instruction.{Instruction}
-use Rattle.extern_call.specs.Resolve.{resolveArgument, resolveReturn}
-use Rattle.extern_call.specs.declared.resolve.Resolution.{Resolution}
-use Rattle.extern_call.specs.declared.resolve.Resolution.the-variants as N
-use Rattle.extern_call.specs.declared.error.CallArgumentError.the-variants as E
+use Rattle.call_argument.specs.Resolve.{resolveArgument, resolveReturn}
+use Rattle.call_argument.specs.declared.resolve.Resolution.{Resolution}
+use Rattle.call_argument.specs.declared.resolve.Resolution.the-variants as N
+use Rattle.call_argument.specs.declared.error.CallArgumentError.the-variants as E
 use Rattle.extern_call.specs.declared.call.ExternCall.{ExternCall}
 use Rattle.extern_call.specs.declared.call.FoundCall.{FoundCall}
 use Rattle.extern_call.specs.declared.call.FoundCall.the-variants as F

@@ -1,8 +1,3 @@
-pub mod Argument
-pub mod Vectors
-pub mod Errors
-pub mod Resolved
-pub mod Resolve
 pub mod Gather
 pub mod Inner
 pub mod Call

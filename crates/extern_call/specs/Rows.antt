@@ -8,12 +8,12 @@ use lib.Seq.{sets}
 use Rattle.tables.specs.Refusal.{bufferSize, argumentCount, argumentErrors}
 use Rattle.tables.specs.Outcome.{Outcome, ok, refuse, _>>=_, _>>_, need}
 use Rattle.tables.specs.declared.rows.Instruction.{Instruction}
-use Rattle.extern_call.specs.Errors.{errorRow}
-use Rattle.extern_call.specs.Resolved.{resolvedRow}
+use Rattle.call_argument.specs.Errors.{errorRow}
+use Rattle.call_argument.specs.Resolved.{resolvedRow}
 use Rattle.extern_call.specs.Gather.{gather, flat}
 use Rattle.extern_call.specs.Call.{findCall, isCounted, resolutionAt, allResolve}
-use Rattle.extern_call.specs.declared.error.CallArgumentError.{CallArgumentError}
-use Rattle.extern_call.specs.declared.resolved.ResolvedCallArgument.{ResolvedCallArgument}
+use Rattle.call_argument.specs.declared.error.CallArgumentError.{CallArgumentError}
+use Rattle.call_argument.specs.declared.resolved.ResolvedCallArgument.{ResolvedCallArgument}
 use Rattle.extern_call.specs.declared.call.ExternCall.{ExternCall}
 use Rattle.extern_call.specs.declared.call.CallResolution.{CallResolution}
 use Rattle.extern_call.specs.declared.call.CallResolution.the-variants.{Resolved, Failed}

@@ -3,11 +3,11 @@
 ghost use mathlib.Core.Path.{_≡_};
 ghost use Prim.Native.Nat.{_+_, _^_, _<_};
 ghost use Rattle.extern_call.specs.Call.{foundCall, findCall, expectedCount, placeOf, ofReturn, ofParameter, resolutionAt, Paired, Counted, allResolve, CallRanges, callAnswer, resolvesCall};
-use crate::error::CallArgumentError;
-use crate::resolve::Resolution;
-use crate::resolve::resolve_argument;
-use crate::resolve::resolve_return;
-use crate::resolved::ResolvedCallArgument;
+use call_argument::error::CallArgumentError;
+use call_argument::resolve::Resolution;
+use call_argument::resolve::resolve_argument;
+use call_argument::resolve::resolve_return;
+use call_argument::resolved::ResolvedCallArgument;
 use tables::lookup::Found;
 use tables::lookup::lookup_extern;
 use tables::parameter_shape::NO_RETURN;

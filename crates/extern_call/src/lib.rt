@@ -1,8 +1,3 @@
-// A CALL's arguments: resolved against the extern's signature, or the errors of those that do not resolve.
-pub mod argument;
+// A CALL's arguments (quil-rs instruction/extern_call.rs): resolved against the extern's signature, or the errors of those that do not resolve.
 pub mod call;
-pub mod error;
-pub mod resolve;
-pub mod resolved;
 pub mod rows;
-pub mod vector;

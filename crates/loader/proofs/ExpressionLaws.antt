@@ -14,14 +14,14 @@ use Rattle.tables.specs.Outcome.{_>>_, need}
 use Rattle.tables.specs.declared.rows.Node.{Node}
 use Rattle.tables.proofs.FirstLaws.{first-hit, first-miss, first-end}
 use Rattle.tables.proofs.TreeLaws.{trees-stop, trees-step, trees-end}
-use Rattle.loader.proofs.Loaded.{and-false}
+use Rattle.tables.proofs.Passed.{and-false}
 use Rattle.loader.specs.Shape.{wholeRows}
 use Rattle.loader.specs.Load.{loadNodesLook}
-use Rattle.loader.specs.Allowed.{nodeAllowed, nodesAllowedFrom, nodesAllowed}
-use Rattle.loader.specs.Children.{childrenOf}
+use Rattle.word_rules.specs.Allowed.{nodeAllowed, nodesAllowedFrom, nodesAllowed}
+use Rattle.word_rules.specs.Children.{childrenOf}
 use Rattle.loader.specs.Expression.{treesAllowed}
-use Rattle.loader.specs.declared.children.Children.the-variants.{Count, Refused}
-use Rattle.loader.proofs.ChildrenLaws.{children-count, children-refused}
+use Rattle.word_rules.specs.declared.children.Children.the-variants.{Count, Refused}
+use Rattle.word_rules.proofs.ChildrenLaws.{children-count, children-refused}
 
 module _ (nodes : List ℕ) (trees i n : ℕ) where
   -- the pass stops where no tree is left

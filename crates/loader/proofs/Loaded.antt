@@ -13,32 +13,13 @@ use Rattle.tables.specs.Rows as R
 use Rattle.tables.specs.Family as family
 use Rattle.tables.specs.Tree.{inside, oneTree}
 use Rattle.loader.specs.Shape.{wholeRows, wholeTables}
-use Rattle.loader.specs.Allowed as A
-use Rattle.loader.specs.Instruction as I
+use Rattle.word_rules.specs.Allowed as A
+use Rattle.word_rules.specs.Instruction as I
 use Rattle.loader.specs.Load.{allowedTables, chosenRow, distinctNames, loadLook, loadRowLook, loadNodesLook}
 use Rattle.tables.specs.declared.rows.Instruction.{Instruction}
-use Rattle.tables.proofs.FirstLaws.{never, every-row}
+use Rattle.tables.proofs.FirstLaws.{every-row}
+use Rattle.tables.proofs.Passed.{both, passed, needed}
 use Rattle.tables.proofs.TreeLaws.{inside-le}
-
-pub both : (a b : Bool) → a && b ≡ true → (a ≡ true) × (b ≡ true)
-both true true e = (refl, refl)
-both true false e = never e
-both false b e = never e
-
-pub and-false : (b : Bool) → (b && false) ≡ false
-and-false true = refl
-and-false false = refl
-
--- a look that was passed
-pub passed : {B : Type 0} (t : Bool) (n : ℕ) (s : Outcome B) (b : B) → (need t n >> s) ≡ ok b → (t ≡ true) × (s ≡ ok b)
-unfolding _>>_ need
-passed true n s b e = (refl, e)
-passed false n s b e = let z : _≡_ {A = ℕ} 0 1 = cc in absurd (omega arith)
-
-pub needed : (t : Bool) (n : ℕ) → need t n ≡ ok tt → t ≡ true
-unfolding need
-needed true n e = refl
-needed false n e = let z : _≡_ {A = ℕ} 0 1 = cc in absurd (omega arith)
 
 pub record Loaded (t : Tables) : Type 0 where
   pub whole : wholeTables t ≡ true

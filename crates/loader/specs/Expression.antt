@@ -3,7 +3,7 @@ use Prim.Native.Nat.{ℕ}
 use mathlib.Core.Bool.{Bool, _&&_}
 use mathlib.Core.List.{List}
 use Rattle.tables.specs.Tree.{treesFrom}
-use Rattle.loader.specs.Allowed.{nodesAllowedFrom}
+use Rattle.word_rules.specs.Allowed.{nodesAllowedFrom}
 
 -- the n rows from row i on are allowed and exactly `trees` trees
 abbrev pub treesAllowed : List ℕ → ℕ → ℕ → ℕ → Bool

@@ -1,7 +1,4 @@
--- Refusals 1 (Shape), 2 (Allowed, Children, Expression, Instruction) and 3, and their order (Load).
+-- Refusal 1 (Shape), 2 for the nodes of a walk (Expression), 3, and the order of 1, 2 and 3 (Load).
 pub mod Shape
-pub mod Allowed
-pub mod Children
-pub mod Instruction
 pub mod Expression
 pub mod Load

@@ -10,8 +10,8 @@ use Rattle.tables.specs.Rows.{regionWidth, externWidth, nodeWidth, nodeLimit, p
 use Rattle.tables.specs.Lookup.{distinct}
 use Rattle.tables.specs.Tree.{oneTree}
 use Rattle.loader.specs.Shape.{wholeRows, wholeTables}
-use Rattle.loader.specs.Allowed.{regionsAllowed, externsAllowed, parametersAllowed, nodesAllowed, argumentsAllowed}
-use Rattle.loader.specs.Instruction.{instructionsAllowed}
+use Rattle.word_rules.specs.Allowed.{regionsAllowed, externsAllowed, parametersAllowed, nodesAllowed, argumentsAllowed}
+use Rattle.word_rules.specs.Instruction.{instructionsAllowed}
 
 -- 2: "word not allowed, range outside its table"
 unfoldable pub allowedTables : Tables → Bool

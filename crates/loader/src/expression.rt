@@ -4,14 +4,14 @@ ghost use mathlib.Core.Bool.{_&&_};
 ghost use Prim.Native.Nat.{_-_, _≤_};
 ghost use Rattle.tables.specs.Rows.{nodeLimit, nodeRows};
 ghost use Rattle.tables.specs.Tree.{oneTree};
-ghost use Rattle.loader.specs.Allowed.{nodesAllowed};
+ghost use Rattle.word_rules.specs.Allowed.{nodesAllowed};
 ghost use Rattle.loader.specs.Expression.{treesAllowed};
-use crate::allowed::nodes_allowed;
-use crate::children::Children;
-use crate::children::children_of;
 use tables::rows::NODE_WIDTH;
 use tables::rows::node_at;
 use tables::tree::range_inside;
+use word_rules::allowed::nodes_allowed;
+use word_rules::children::Children;
+use word_rules::children::children_of;
 
 // Whether the rows from `first` to before `end` are allowed and exactly one tree.
 fn tree_allowed(nodes: &[u64], first: usize, end: usize) -> bool

@@ -1,8 +1,4 @@
-// The loader's looks at the tables: refusals 1, 2 and 3.
-pub mod allowed;
-pub mod children;
+// The loader's looks at the tables, in their order: refusals 1, 2 (by word_rules) and 3.
 pub mod expression;
-pub mod instruction;
 pub mod load;
-pub mod nodes;
 pub mod shape;

@@ -5,12 +5,7 @@ ghost use Rattle.tables.specs.Rows.{nodeLimit, nodeRows};
 ghost use Rattle.tables.specs.Tables.{tablesOf};
 ghost use Rattle.tables.specs.Look.{lookOutcome};
 ghost use Rattle.loader.specs.Load.{allowedTables, distinctNames, chosenRow, loadLook, loadRowLook, loadNodesLook};
-use crate::allowed::arguments_allowed;
-use crate::allowed::externs_allowed;
-use crate::allowed::parameters_allowed;
-use crate::allowed::regions_allowed;
 use crate::expression::expression_allowed;
-use crate::instruction::nodes_and_rows_allowed;
 use crate::shape::whole_rows;
 use crate::shape::whole_tables;
 use tables::look::Look;
@@ -25,6 +20,11 @@ use tables::rows::NODE_LIMIT;
 use tables::rows::NODE_WIDTH;
 use tables::rows::PARAMETER_WIDTH;
 use tables::rows::REGION_WIDTH;
+use word_rules::allowed::arguments_allowed;
+use word_rules::allowed::externs_allowed;
+use word_rules::allowed::parameters_allowed;
+use word_rules::allowed::regions_allowed;
+use word_rules::instruction::nodes_and_rows_allowed;
 
 // Every word rule of every table, of tables within their limits.
 fn allowed_tables(

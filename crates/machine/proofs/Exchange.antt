@@ -8,7 +8,7 @@ use lib.ListN.{set}
 use lib.Seq.{set-comm}
 use Rattle.words.specs.Kind.{fitsKind}
 use Rattle.tables.specs.Outcome.{ok}
-use Rattle.loader.proofs.Loaded.{passed}
+use Rattle.tables.proofs.Passed.{passed}
 use Rattle.journal.specs.declared.cells.Write.{Write}
 use Rattle.journal.specs.Cells.{put, applied}
 use Rattle.operands.specs.Cells.{cellKind, cellWord, cellAt, readOf, write}

@@ -4,7 +4,7 @@ use mathlib.Core.Bool.{true}
 use mathlib.Core.List.{List}
 use mathlib.Core.Path.{_≡_, refl}
 use Rattle.tables.specs.Outcome.{ok}
-use Rattle.loader.specs.Instruction.{formAllowed}
+use Rattle.word_rules.specs.Instruction.{formAllowed}
 use Rattle.tables.specs.declared.rows.Instruction.{Instruction}
 use Rattle.tables.specs.Cases.{caseOf}
 use Rattle.tables.specs.Family as family

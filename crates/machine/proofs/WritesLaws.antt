@@ -15,7 +15,7 @@ use Rattle.tables.specs.Rows.{regionRows}
 use Rattle.tables.specs.Cells.{cellCount}
 use Rattle.tables.specs.declared.rows.Instruction.{Instruction}
 use Rattle.tables.proofs.Cases.{at-key, by-key, past-keys}
-use Rattle.loader.proofs.Loaded.{passed}
+use Rattle.tables.proofs.Passed.{passed}
 use Rattle.journal.specs.declared.cells.Write.{Write}
 use Rattle.journal.specs.Each.{Each, none, also}
 use Rattle.operands.specs.Address.{indexedOf, namesOf, addressesOf}

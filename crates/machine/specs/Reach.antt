@@ -5,7 +5,7 @@ use mathlib.Core.List.{List}
 use mathlib.Core.Path.{_≡_}
 use Rattle.tables.specs.Rows.{regionRows}
 use Rattle.tables.specs.Cells.{cellCount}
-use Rattle.loader.specs.Instruction.{formAllowed}
+use Rattle.word_rules.specs.Instruction.{formAllowed}
 use Rattle.tables.specs.declared.rows.Instruction.{Instruction}
 use Rattle.tables.specs.Names.{namesFirst, indexesFirst, namesSecond, indexesSecond, namesSource}
 use Rattle.operands.specs.declared.address.NamedRegions.{NamedRegions}

@@ -15,7 +15,7 @@ use Rattle.tables.specs.declared.lookup.Found.{Found}
 use Rattle.tables.specs.declared.lookup.Found.the-variants.{At, Nothing}
 use Rattle.tables.proofs.CellsLaws.{origin-within}
 use Rattle.tables.proofs.LookupLaws.{region-row}
-use Rattle.loader.proofs.Loaded.{both, passed}
+use Rattle.tables.proofs.Passed.{both, passed}
 use Rattle.operands.specs.Reach.{Laid}
 use Rattle.operands.specs.Address.{addressOf, indexFits, indexedOf, foundRegion, namedOf, writtenOf}
 

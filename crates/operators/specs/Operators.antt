@@ -5,7 +5,7 @@ use mathlib.Core.List.{List, [], _∷_}
 use lib.Dec.{eqb, ltb}
 use Rattle.words.specs.Kind.{integer, real, integerLiteral, realLiteral, widthOf}
 use Rattle.words.specs.Integer as Z
-use Rattle.words.specs.Real as R
+use Rattle.reals.specs.Real as R
 use Rattle.words.specs.Width.{notAt, andAt, iorAt, xorAt, shiftLeft, shiftRight, shiftRightArithmetic}
 use Rattle.words.specs.declared.integer.Quotient.{Quotient}
 use Rattle.words.specs.declared.integer.Quotient.the-variants as Q

@@ -1,11 +1,11 @@
 // Which operand kinds have a rule, and the result of each operator. The loader lets no other operator pass: the rest arms are never reached.
 ghost use mathlib.Core.Path.{_≡_};
 ghost use Rattle.operators.specs.Operators.{ownKind, arithmeticKinds, quotientOutcome, integerResult, realResult, arithmeticResult, comparisonKinds, integerTest, realTest, comparisonTest, comparisonResult, logicKinds, shiftedOutcome, logicResult, unaryKinds, negated, unaryResult};
+use reals::real;
 use tables::operator;
 use words::integer;
 use words::integer::Quotient;
 use words::kind;
-use words::real;
 use words::width;
 use words::width::Shifted;
 

@@ -1,10 +1,10 @@
 // A short decimal as a REAL word: 15 digits at most, perhaps a point and an exponent, so that number and power of ten are binary64 exactly and their product or quotient is rounded once.
 ghost use Prim.Native.Nat.{_≤_};
 ghost use lib.ListN.{length};
+use reals::real;
 use std::num::wrapping_add_u64;
 use std::num::wrapping_add_usize;
 use words::integer;
-use words::real;
 
 // What a text is read as: a REAL word, none, or one that has too many digits or too large a power of ten.
 pub enum Reading {

@@ -10,7 +10,7 @@ use borrow.Author.Tests.{ltb-true, leb-true, leb-false, le-leb, lt-leb}
 use Rattle.tables.specs.Refusal.{atEnd, journalFull, noRule}
 use Rattle.tables.specs.Outcome.{Outcome, ok, refuse, _>>=_, _>>_, need}
 use Rattle.tables.specs.Rows.{instructionRows}
-use Rattle.loader.proofs.Loaded.{passed}
+use Rattle.tables.proofs.Passed.{passed}
 use Rattle.journal.specs.declared.cells.Write.{Write}
 use Rattle.machine.specs.Outcome.{outcomeAt}
 use Rattle.operands.proofs.Binds.{bound}

@@ -8,8 +8,8 @@ use Rattle.tables.specs.Outcome.{Outcome, ok, refuse}
 use Rattle.tables.specs.Tables.{Tables}
 use Rattle.tables.specs.Cells.{cellCount}
 use Rattle.type_check.specs.Check.{checkOf}
-use Rattle.type_check.specs.declared.error.Verdict.{Verdict}
-use Rattle.type_check.specs.declared.error.Verdict.the-variants as T
+use Rattle.type_rules.specs.declared.error.Verdict.{Verdict}
+use Rattle.type_rules.specs.declared.error.Verdict.the-variants as T
 use Rattle.journal.specs.Position.{firstPosition}
 use Rattle.journal.specs.Cells.{cellWidth}
 use Rattle.operands.specs.Kinds.{zeros}

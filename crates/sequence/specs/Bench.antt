@@ -5,10 +5,10 @@ use mathlib.Core.Path.{_≡_, refl}
 use Rattle.tables.specs.Bench.{a, n, o, r, q}
 use Rattle.tables.specs.Refusal.{atEnd, journalFull, indexPastLength, negativeShiftCount}
 use Rattle.words.specs.Kind.{bit, integer, octet, real, realLiteral}
-use Rattle.type_check.specs.Numbers.{imaginary, realOrIntegral, firstSpot, secondSpot, sourceSpot, nodeSpot}
-use Rattle.type_check.specs.Judgement.{Judgement, undefinedMemoryReference, dataTypeMismatch, realValueRequired, operatorOperandMismatch, verdictAt}
-use Rattle.type_check.specs.declared.error.Verdict.{Verdict}
-use Rattle.type_check.specs.declared.error.Verdict.the-variants as T
+use Rattle.type_rules.specs.Numbers.{imaginary, realOrIntegral, firstSpot, secondSpot, sourceSpot, nodeSpot}
+use Rattle.type_rules.specs.Judgement.{Judgement, undefinedMemoryReference, dataTypeMismatch, realValueRequired, operatorOperandMismatch, verdictAt}
+use Rattle.type_rules.specs.declared.error.Verdict.{Verdict}
+use Rattle.type_rules.specs.declared.error.Verdict.the-variants as T
 use Rattle.journal.specs.Position.{firstPosition}
 use Rattle.session.specs.declared.answer.OpenAnswer.{OpenAnswer}
 use Rattle.session.specs.declared.answer.OpenAnswer.the-variants.{Opened, Error}

@@ -7,7 +7,7 @@ use Rattle.words.specs.Kind.{widthOf, fitsKind}
 use Rattle.words.specs.TwosComplement.{signed, wordOf}
 use Rattle.words.specs.Integer.{integerDivide, integerQuotient, integerIsNegative}
 use Rattle.words.specs.Width.{lowBits, shlAt, ashrAt, shifted, shiftLeft, shiftRightArithmetic}
-use Rattle.words.specs.Real.{size, realAboveEpsilon}
+use Rattle.reals.specs.Real.{size, realAboveEpsilon}
 use Rattle.tables.specs.Bench.{declarations}
 use Rattle.tables.specs.Cases.{caseOf}
 use Rattle.tables.specs.Family as family
@@ -19,14 +19,14 @@ use Rattle.tables.specs.Outcome.{_>>=_, _>>_, need}
 use Rattle.tables.specs.First.{first, every}
 use Rattle.tables.specs.Tables.{Tables, tablesOf}
 use Rattle.loader.specs.Shape.{wholeRows, wholeTables}
-use Rattle.loader.specs.Allowed.{regionAllowed, nodeAllowed, regionsAllowed, externsAllowed, parametersAllowed, nodesAllowed, argumentsAllowed}
-use Rattle.loader.specs.Instruction.{operatorsOf, formAllowed, sourceAllowed, operandsAllowed, instructionAllowed, instructionsAllowed}
+use Rattle.word_rules.specs.Allowed.{regionAllowed, nodeAllowed, regionsAllowed, externsAllowed, parametersAllowed, nodesAllowed, argumentsAllowed}
+use Rattle.word_rules.specs.Instruction.{operatorsOf, formAllowed, sourceAllowed, operandsAllowed, instructionAllowed, instructionsAllowed}
 use Rattle.tables.specs.Tree.{arityOf, treesFrom, inside, oneTree}
 use Rattle.tables.specs.Lookup.{lookupOf, lookupAmong, distinct}
 use Rattle.loader.specs.Load.{loadLook, allowedTables, distinctNames}
 use Rattle.tables.specs.Cells.{firstCell, cellCount, cellsOf}
-use Rattle.type_check.specs.Rule.{arithmeticRule, sourceRule, logicSource, logicRule, moveRule, exchangeRule, loadOffset, loadRule, storeSource, storeRule, ruleOf}
-use Rattle.type_check.specs.Codes.{kindCode, codeOf, operandCode, sourceCode, rowRule}
+use Rattle.type_rules.specs.Rule.{arithmeticRule, sourceRule, logicSource, logicRule, moveRule, exchangeRule, loadOffset, loadRule, storeSource, storeRule, ruleOf}
+use Rattle.type_rules.specs.Codes.{kindCode, codeOf, operandCode, sourceCode, rowRule}
 use Rattle.type_check.specs.Frame.{numberVerdict, nodeVerdict, treeVerdict, frameRule}
 use Rattle.type_check.specs.Check.{judgementOf, verdictOf, checkOf}
 use Rattle.journal.specs.Cells.{cellWidth, put, applied}

@@ -9,7 +9,7 @@ use Rattle.tables.specs.Refusal.{foreignPosition}
 use Rattle.tables.specs.Outcome.{Outcome, ok, refuse, _>>=_, _>>_, need}
 use Rattle.tables.specs.Tables.{Tables}
 use Rattle.tables.specs.Rows.{instructionRows}
-use Rattle.loader.proofs.Loaded.{both}
+use Rattle.tables.proofs.Passed.{both}
 use Rattle.journal.specs.declared.position.Position.{Position}
 use Rattle.journal.specs.Position.{rowOf}
 use Rattle.session.specs.Prepare.{entriesOf, preparedOf}

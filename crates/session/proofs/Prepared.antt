@@ -12,7 +12,7 @@ use Rattle.tables.specs.Outcome.{Outcome, ok, refuse, _>>=_, _>>_}
 use Rattle.tables.specs.Tables.{Tables}
 use Rattle.loader.specs.Load.{loadLook}
 use Rattle.tables.specs.Cells.{cellLimit, cellCount, cellsOf}
-use Rattle.loader.proofs.Loaded.{both, passed}
+use Rattle.tables.proofs.Passed.{both, passed}
 use Rattle.tables.proofs.CellsLaws.{cells-given}
 use Rattle.operands.proofs.Binds.{bound}
 use Rattle.journal.specs.Cells.{cellWidth}

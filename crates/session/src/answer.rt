@@ -1,6 +1,6 @@
 // What open, forward and back answer.
 use journal::position::Position;
-use type_check::error::TypeError;
+use type_rules::error::TypeError;
 
 // The first position, a refusal by its number, or 5 with the first type error.
 pub enum OpenAnswer {

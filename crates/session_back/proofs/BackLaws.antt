@@ -11,7 +11,7 @@ use borrow.Author.Tests.{ltb-true}
 use Rattle.tables.specs.Outcome.{Outcome, ok, refuse, _>>=_}
 use Rattle.tables.specs.Tables.{Tables}
 use Rattle.tables.specs.Cells.{cellCount}
-use Rattle.loader.proofs.Loaded.{passed}
+use Rattle.tables.proofs.Passed.{passed}
 use Rattle.journal.specs.declared.position.Position.{Position}
 use Rattle.journal.specs.Cells.{cellWidth}
 use Rattle.journal.specs.Entries.{entriesAt}

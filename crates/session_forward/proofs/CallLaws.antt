@@ -10,13 +10,13 @@ use borrow.Author.Tests.{leb-true}
 use Rattle.tables.specs.Outcome.{ok}
 use Rattle.tables.specs.Cells.{cellCount}
 use Rattle.tables.specs.declared.rows.Instruction.{Instruction}
-use Rattle.loader.proofs.Loaded.{both}
+use Rattle.tables.proofs.Passed.{both}
 use Rattle.tables.proofs.LookupLaws.{region-row}
 use Rattle.extern_call.specs.Call.{CallRanges, resolutionAt}
 use Rattle.extern_call.specs.declared.call.ExternCall.{ExternCall}
 use Rattle.extern_call.specs.declared.call.CallResolution.{CallResolution}
 use Rattle.extern_call.specs.declared.call.CallResolution.the-variants as C
-use Rattle.extern_call.specs.declared.resolved.ResolvedCallArgument.the-variants.{Vector, MemoryReference, Immediate}
+use Rattle.call_argument.specs.declared.resolved.ResolvedCallArgument.the-variants.{Vector, MemoryReference, Immediate}
 use Rattle.extern_call.proofs.ResolvedLaws.{resolved-facts}
 use Rattle.journal.specs.declared.cells.Write.{Write}
 use Rattle.call_reply.specs.Call.{replyRows, replyAt, replyLengthFits, hits, cellHit, ofResolved, replyRowFits, replyFits, replyWrite, replyWritesFrom, replyWrites, callJudged}

@@ -11,9 +11,10 @@ use borrow.Author.Tests.{ltb-true, leb-true}
 use Rattle.tables.specs.Outcome.{Outcome, ok, refuse, _>>=_, _>>_, need}
 use Rattle.tables.specs.Tables.{Tables}
 use Rattle.tables.specs.Rows.{instructionRows, instructionAt}
-use Rattle.loader.specs.Instruction as I
+use Rattle.word_rules.specs.Instruction as I
 use Rattle.tables.specs.declared.rows.Instruction.{Instruction}
-use Rattle.loader.proofs.Loaded.{Loaded, loaded, both, passed, few-instructions, instruction-allowed, call-arguments, extern-parameters}
+use Rattle.loader.proofs.Loaded.{Loaded, loaded, few-instructions, instruction-allowed, call-arguments, extern-parameters}
+use Rattle.tables.proofs.Passed.{both, passed}
 use Rattle.journal.specs.declared.cells.Write.{Write}
 use Rattle.journal.specs.Each.{Each, none, also}
 use Rattle.journal.specs.declared.position.Position.{Position}

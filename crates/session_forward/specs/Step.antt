@@ -10,7 +10,7 @@ use Rattle.tables.specs.Outcome.{Outcome, ok, refuse, _>>=_, _>>_, need}
 use Rattle.tables.specs.Tables.{Tables}
 use Rattle.tables.specs.Family as family
 use Rattle.tables.specs.Rows.{instructionLimit, instructionRows, instructionAt}
-use Rattle.loader.specs.Instruction.{formAllowed}
+use Rattle.word_rules.specs.Instruction.{formAllowed}
 use Rattle.tables.specs.declared.rows.Instruction.{Instruction}
 use Rattle.extern_call.specs.Call.{CallRanges}
 use Rattle.extern_call.specs.declared.call.ExternCall.{ExternCall}

@@ -13,9 +13,9 @@ use Rattle.tables.specs.Rows.{instructionRows, instructionAt}
 use Rattle.loader.specs.Load.{loadLook}
 use Rattle.tables.specs.Cells.{cellCount}
 use Rattle.type_check.specs.Check.{checkOf}
-use Rattle.type_check.specs.declared.error.TypeError.{TypeError}
-use Rattle.type_check.specs.declared.error.Verdict.{Verdict}
-use Rattle.type_check.specs.declared.error.Verdict.the-variants as T
+use Rattle.type_rules.specs.declared.error.TypeError.{TypeError}
+use Rattle.type_rules.specs.declared.error.Verdict.{Verdict}
+use Rattle.type_rules.specs.declared.error.Verdict.the-variants as T
 use Rattle.extern_call.specs.Call.{CallRanges, resolvesCall}
 use Rattle.journal.specs.Position.{firstPosition}
 use Rattle.journal.specs.Cells.{cellWidth}

@@ -7,8 +7,8 @@ use crate::zero::zero_cells;
 use journal::position::Position;
 use session::answer::OpenAnswer;
 use tables::look::Look;
-use type_check::error::Verdict;
 use type_check::program::check_program;
+use type_rules::error::Verdict;
 
 pub fn open_cells(
     regions: &[u64],

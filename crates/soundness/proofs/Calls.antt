@@ -15,13 +15,13 @@ use Rattle.tables.specs.declared.lookup.Found.the-variants as L
 use Rattle.tables.specs.declared.rows.Instruction.{Instruction}
 use Rattle.tables.proofs.FirstLaws.{every-row}
 use Rattle.tables.proofs.LookupLaws.{region-row, region-named}
-use Rattle.loader.proofs.Loaded.{both}
+use Rattle.tables.proofs.Passed.{both}
 use Rattle.extern_call.specs.Call.{resolutionAt}
 use Rattle.extern_call.specs.declared.call.ExternCall.{ExternCall}
 use Rattle.extern_call.specs.declared.call.CallResolution.{CallResolution}
 use Rattle.extern_call.specs.declared.call.CallResolution.the-variants as C
-use Rattle.extern_call.specs.declared.resolved.ResolvedCallArgument.{ResolvedCallArgument}
-use Rattle.extern_call.specs.declared.resolved.ResolvedCallArgument.the-variants.{Vector, MemoryReference, Immediate}
+use Rattle.call_argument.specs.declared.resolved.ResolvedCallArgument.{ResolvedCallArgument}
+use Rattle.call_argument.specs.declared.resolved.ResolvedCallArgument.the-variants.{Vector, MemoryReference, Immediate}
 use Rattle.extern_call.proofs.ResolvedLaws.{resolvedName, resolvedMutable, resolved-facts}
 use Rattle.extern_call.proofs.ResolvesLaws.{Resolvable}
 use Rattle.access_sets.specs.Set.{has}

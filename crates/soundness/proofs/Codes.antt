@@ -11,11 +11,11 @@ use Rattle.tables.specs.Cases.{caseOf}
 use Rattle.tables.specs.First.{first, every}
 use Rattle.tables.specs.Operator as operator
 use Rattle.tables.proofs.Cases.{by-key, past-first}
-use Rattle.loader.specs.Instruction.{upTo}
-use Rattle.loader.proofs.Loaded.{both}
-use Rattle.type_check.specs.Judgement.{Judgement, pass, passes}
-use Rattle.type_check.specs.Rule as T
-use Rattle.type_check.proofs.CodeLaws.{Code, everyCode, each-code}
+use Rattle.word_rules.specs.Instruction.{upTo}
+use Rattle.tables.proofs.Passed.{both}
+use Rattle.type_rules.specs.Judgement.{Judgement, pass, passes}
+use Rattle.type_rules.specs.Rule as T
+use Rattle.type_rules.proofs.CodeLaws.{Code, everyCode, each-code}
 use Rattle.operators.specs.Operators.{arithmeticKinds, comparisonKinds, logicKinds, unaryKinds}
 
 -- ---- tests that all hold

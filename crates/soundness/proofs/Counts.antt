@@ -9,7 +9,7 @@ use borrow.Author.Tests.{leb-true}
 use Rattle.tables.specs.Outcome.{ok}
 use Rattle.tables.specs.Tables.{Tables}
 use Rattle.tables.specs.declared.rows.Instruction.{Instruction}
-use Rattle.loader.proofs.Loaded.{both, passed}
+use Rattle.tables.proofs.Passed.{both, passed}
 use Rattle.journal.specs.declared.cells.Write.{Write}
 use Rattle.call_reply.specs.Call.{replyWidth, replyLimit, replyRows, replyLengthFits, replyFits, replyWrites, callJudged, callOutcome}
 use Rattle.machine.specs.Outcome.{isCall, isOther, plainOutcome, outcomeOf}

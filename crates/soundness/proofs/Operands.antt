@@ -8,7 +8,7 @@ use native.Mathlib.Omega.{arith}
 use lib.Dec.{eqb}
 use borrow.Author.Tests.{eqb-true}
 use Rattle.tables.specs.declared.rows.Instruction.{Instruction}
-use Rattle.type_check.specs.Codes.{firstCode, secondCode, referenceCode}
+use Rattle.type_rules.specs.Codes.{firstCode, secondCode, referenceCode}
 use Rattle.tables.specs.Source as source
 use Rattle.tables.specs.Names.{namesFirst, indexesFirst, namesSecond, indexesSecond, namesSource}
 use Rattle.operands.specs.Address.{namesOf, addressesOf}

@@ -13,8 +13,8 @@ use Rattle.tables.specs.Lookup.{lookupRegion}
 use Rattle.tables.specs.declared.lookup.Found.{Found}
 use Rattle.tables.specs.declared.lookup.Found.the-variants.{At, Nothing}
 use Rattle.tables.proofs.LookupLaws.{region-row}
-use Rattle.type_check.specs.Codes.{codeOf}
-use Rattle.type_check.proofs.CodeLaws.{code-kind, code-none}
+use Rattle.type_rules.specs.Codes.{codeOf}
+use Rattle.type_rules.proofs.CodeLaws.{code-kind, code-none}
 use Rattle.operands.specs.Kinds.{regionAmong, regionOf, declaredKind}
 use Rattle.operands.specs.Reach.{Laid}
 use Rattle.operands.specs.Address.{addressOf, indexFits, indexedOf, foundRegion, namedOf, writtenOf}

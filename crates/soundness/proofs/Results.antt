@@ -9,9 +9,10 @@ use lib.Pow.{pow-pos}
 use borrow.Author.Tests.{eqb-true, ltb-true}
 use Rattle.words.specs.Kind.{bit, real, widthOf, fitsKind}
 use Rattle.words.specs.Fits as W
+use Rattle.reals.specs.Fits as R
 use Rattle.words.specs.WidthLaws.{not-below}
 use Rattle.words.specs.Integer.{integerDivide, integerNegate}
-use Rattle.words.specs.Real.{realNegate}
+use Rattle.reals.specs.Real.{realNegate}
 use Rattle.words.specs.Width.{notAt, shiftLeft, shiftRight, shiftRightArithmetic}
 use Rattle.words.specs.declared.integer.Quotient.{Quotient}
 use Rattle.words.specs.declared.integer.Quotient.the-variants as Q
@@ -22,7 +23,7 @@ use Rattle.tables.specs.Outcome.{ok}
 use Rattle.tables.specs.Cases.{caseOf}
 use Rattle.tables.specs.Operator as operator
 use Rattle.tables.proofs.Cases.{by-key, past-keys}
-use Rattle.loader.proofs.Loaded.{both}
+use Rattle.tables.proofs.Passed.{both}
 use Rattle.operators.specs.Operators.{quotientOutcome, integerResults, integerResult, realResults, realResult, arithmeticResult, comparisonTest, comparisonResult, shiftedOutcome, logicResults, logicResult, negated, unaryResults, unaryResult}
 use Rattle.machine.proofs.Ends.{Ends, Ruled, fine, turned, either}
 
@@ -51,10 +52,10 @@ unfolding realResult caseOf
 real-below which a b =
     by-key (λ o. realResult o a b < 2 ^ 64)
     (
-    (operator.add, W.realAdd-below a b)
-    ∷ (operator.subtract, W.realSubtract-below a b)
-    ∷ (operator.divide, W.realDivide-below a b)
-    ∷ (operator.multiply, W.realMultiply-below a b)
+    (operator.add, R.realAdd-below a b)
+    ∷ (operator.subtract, R.realSubtract-below a b)
+    ∷ (operator.divide, R.realDivide-below a b)
+    ∷ (operator.multiply, R.realMultiply-below a b)
     ∷ []
     )
     which
@@ -107,7 +108,7 @@ unfolding negated
 negated-below kind v = at (eqb kind real)
   where
     at : (t : Bool) → cond t (realNegate v) (integerNegate v) < 2 ^ 64
-    at true = W.realNegate-below v
+    at true = R.realNegate-below v
     at false = W.integerNegate-below v
 
 -- NEG at 64 bits, NOT at any width

@@ -13,13 +13,13 @@ use Rattle.tables.specs.Operator as operator
 use Rattle.tables.specs.Source as source
 use Rattle.tables.specs.Refusal.{unfitReply}
 use Rattle.tables.proofs.Cases.{at-key, by-key, past-keys}
-use Rattle.loader.specs.Instruction.{upTo, operatorsOf, formsByFamily, formAllowed}
+use Rattle.word_rules.specs.Instruction.{upTo, operatorsOf, formsByFamily, formAllowed}
 use Rattle.tables.specs.declared.rows.Instruction.{Instruction}
-use Rattle.type_check.specs.Judgement.{pass}
-use Rattle.type_check.specs.Rule.{ruleOf}
-use Rattle.type_check.specs.Codes.{firstCode, secondCode, referenceCode, operandCode, rowRule}
+use Rattle.type_rules.specs.Judgement.{pass}
+use Rattle.type_rules.specs.Rule.{ruleOf}
+use Rattle.type_rules.specs.Codes.{firstCode, secondCode, referenceCode, operandCode, rowRule}
 use Rattle.type_check.proofs.NameLaws.{logic-form}
-use Rattle.type_check.proofs.CodeLaws.{Code, name-code, operand-code, reference-is, source-is}
+use Rattle.type_rules.proofs.CodeLaws.{Code, name-code, operand-code, reference-is, source-is}
 use Rattle.journal.specs.Each.{none}
 use Rattle.tables.specs.Names.{unused, Operands, operands, operandsByFamily, operandsOf, isName, namesFirst, namesSecond, indexesFirst, indexesSecond, namesSource}
 use Rattle.operands.specs.Cells.{sourceOf}

@@ -10,9 +10,10 @@ use Rattle.tables.specs.Refusal.{noRule, otherInstruction}
 use Rattle.tables.specs.Outcome.{Outcome, ok, refuse}
 use Rattle.tables.specs.Tables.{Tables}
 use Rattle.tables.specs.Rows.{instructionRows, instructionAt}
-use Rattle.loader.specs.Instruction.{operatorsOf, formAllowed, instructionAllowed}
+use Rattle.word_rules.specs.Instruction.{operatorsOf, formAllowed, instructionAllowed}
 use Rattle.tables.specs.declared.rows.Instruction.{Instruction}
-use Rattle.loader.proofs.Loaded.{Loaded, loaded, both, passed, region-kind, instruction-allowed}
+use Rattle.loader.proofs.Loaded.{Loaded, loaded, region-kind, instruction-allowed}
+use Rattle.tables.proofs.Passed.{both, passed}
 use Rattle.type_check.proofs.CheckLaws.{rule-passes}
 use Rattle.journal.specs.declared.cells.Write.{Write}
 use Rattle.journal.specs.Each.{Each}

@@ -14,7 +14,7 @@ use Rattle.tables.specs.Refusal.{noRule}
 use Rattle.tables.specs.Outcome.{Outcome, ok, refuse, _>>_, need}
 use Rattle.tables.specs.Cells.{cellCount}
 use Rattle.tables.specs.declared.rows.Instruction.{Instruction}
-use Rattle.type_check.specs.Codes.{codeOf, operandCode}
+use Rattle.type_rules.specs.Codes.{codeOf, operandCode}
 use Rattle.journal.specs.declared.cells.Write.{Write}
 use Rattle.journal.specs.Each.{Each}
 use Rattle.tables.specs.Names.{namesSource}

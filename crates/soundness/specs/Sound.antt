@@ -11,7 +11,7 @@ use Rattle.tables.specs.Cells.{cellCount}
 use Rattle.loader.specs.Load.{loadLook}
 use Rattle.tables.specs.declared.rows.Instruction.{Instruction}
 use Rattle.type_check.specs.Check.{checkOf}
-use Rattle.type_check.specs.declared.error.Verdict.the-variants.{Accepted}
+use Rattle.type_rules.specs.declared.error.Verdict.the-variants.{Accepted}
 use Rattle.journal.specs.declared.cells.Write as journal
 use Rattle.journal.specs.Each.{Each}
 use Rattle.operands.specs.Kinds.{zeros}

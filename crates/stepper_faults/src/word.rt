@@ -7,12 +7,6 @@ use crate::range::asked_for;
 use crate::row::next_row;
 use crate::row::row_from;
 use crate::row::whole_row;
-use loader::allowed::arguments_allowed;
-use loader::allowed::externs_allowed;
-use loader::allowed::nodes_allowed;
-use loader::allowed::parameters_allowed;
-use loader::allowed::regions_allowed;
-use loader::instruction::nodes_and_rows_allowed;
 use stepper_words::heading::Table;
 use stepper_words::names::word_of;
 use stepper_words::place::ROW_WORDS;
@@ -24,6 +18,12 @@ use tables::rows::NODE_LIMIT;
 use tables::rows::NODE_WIDTH;
 use tables::rows::PARAMETER_WIDTH;
 use tables::rows::REGION_WIDTH;
+use word_rules::allowed::arguments_allowed;
+use word_rules::allowed::externs_allowed;
+use word_rules::allowed::nodes_allowed;
+use word_rules::allowed::parameters_allowed;
+use word_rules::allowed::regions_allowed;
+use word_rules::instruction::nodes_and_rows_allowed;
 
 // A table of one instruction, by the library's rule, which looks at the nodes too: they are within their limit and allowed.
 fn instruction_allowed(row: &[u64], nodes: &[u64], arguments: usize) -> bool {

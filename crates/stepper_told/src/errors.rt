@@ -12,11 +12,11 @@ use stepper_lines::view::View;
 use stepper_words::names::NAME_WORDS;
 use tables::rows::Argument;
 use tables::rows::PARAMETER_LIMIT;
-use type_check::code::DATA_TYPE;
-use type_check::code::NODE;
-use type_check::code::REAL_REQUIRED;
-use type_check::code::UNDEFINED;
-use type_check::error::TypeError;
+use type_rules::code::DATA_TYPE;
+use type_rules::code::NODE;
+use type_rules::code::REAL_REQUIRED;
+use type_rules::code::UNDEFINED;
+use type_rules::error::TypeError;
 
 // Room for an error of the return and of each parameter.
 pub const RESOLVE_WORDS: usize = ERROR_WIDTH * (PARAMETER_LIMIT + 1);

@@ -14,13 +14,13 @@ use Rattle.tables.specs.Rows.{instructionRows, instructionAt}
 use Rattle.tables.specs.declared.rows.Instruction.{Instruction}
 use Rattle.tables.proofs.Cases.{Missed, other-arm}
 use Rattle.loader.proofs.Loaded.{Loaded, frame-inside}
-use Rattle.type_check.specs.Judgement.{Judgement, pass, fail, verdictAt}
-use Rattle.type_check.specs.Rule.{rules, ruleOf}
-use Rattle.type_check.specs.Codes.{firstCode, secondCode, referenceCode, operandCode, sourceCode, rowRule}
+use Rattle.type_rules.specs.Judgement.{Judgement, pass, fail, verdictAt}
+use Rattle.type_rules.specs.Rule.{rules, ruleOf}
+use Rattle.type_rules.specs.Codes.{firstCode, secondCode, referenceCode, operandCode, sourceCode, rowRule}
 use Rattle.type_check.specs.Frame.{frameRule}
 use Rattle.type_check.specs.Check.{judgementOf, verdictOf, isError, rowVerdict, checkOf, FrameInside, FramesInside}
-use Rattle.type_check.specs.declared.error.TypeError.{TypeError}
-use Rattle.type_check.specs.declared.error.Verdict.the-variants.{Accepted, Error}
+use Rattle.type_rules.specs.declared.error.TypeError.{TypeError}
+use Rattle.type_rules.specs.declared.error.Verdict.the-variants.{Accepted, Error}
 use Rattle.type_check.proofs.Searches.{searched}
 
 -- every frame's range lies in the node table

@@ -17,16 +17,16 @@ use Rattle.tables.specs.declared.rows.Node.{Node}
 use Rattle.tables.specs.declared.rows.Instruction.{Instruction}
 use Rattle.tables.proofs.Cases.{by-key, past-keys}
 use Rattle.tables.proofs.FirstLaws.{never}
-use Rattle.loader.specs.Instruction.{formAllowed}
-use Rattle.type_check.specs.Judgement.{pass}
-use Rattle.type_check.specs.Rule.{rules, ruleOf}
-use Rattle.type_check.specs.Codes.{codeOf, referenceCode, operandCode, sourceCode, rowRule}
+use Rattle.word_rules.specs.Instruction.{formAllowed}
+use Rattle.type_rules.specs.Judgement.{pass}
+use Rattle.type_rules.specs.Rule.{rules, ruleOf}
+use Rattle.type_rules.specs.Codes.{codeOf, referenceCode, operandCode, sourceCode, rowRule}
 use Rattle.type_check.specs.Frame.{addressRule, nodeVerdicts, nodeVerdict, isFailure, atPlace, treeRule, treeVerdict, frameRule}
 use Rattle.type_check.specs.Check.{judgementOf}
 use Rattle.type_check.specs.Names.{operandNamed, addressNamed, nodeNamed, rowNamed}
 use Rattle.type_check.specs.declared.frame.NodeVerdict.the-variants.{Real}
 use Rattle.type_check.specs.declared.frame.TreeVerdict.the-variants.{AllReal}
-use Rattle.type_check.proofs.CodeLaws.{source-is}
+use Rattle.type_rules.proofs.CodeLaws.{source-is}
 use Rattle.type_check.proofs.Searches.{searched, same-search}
 
 -- ---- a row that is no frame

@@ -8,12 +8,12 @@ use Rattle.tables.specs.First.{first}
 use Rattle.tables.specs.Family as family
 use Rattle.tables.specs.Rows.{nodeRows, instructionRows, instructionAt}
 use Rattle.tables.specs.declared.rows.Instruction.{Instruction}
-use Rattle.type_check.specs.Judgement.{Judgement, verdictAt}
-use Rattle.type_check.specs.Codes.{rowRule}
+use Rattle.type_rules.specs.Judgement.{Judgement, verdictAt}
+use Rattle.type_rules.specs.Codes.{rowRule}
 use Rattle.type_check.specs.Frame.{frameRule}
-use Rattle.type_check.specs.declared.error.TypeError.{TypeError}
-use Rattle.type_check.specs.declared.error.Verdict.{Verdict}
-use Rattle.type_check.specs.declared.error.Verdict.the-variants.{Accepted, Error}
+use Rattle.type_rules.specs.declared.error.TypeError.{TypeError}
+use Rattle.type_rules.specs.declared.error.Verdict.{Verdict}
+use Rattle.type_rules.specs.declared.error.Verdict.the-variants.{Accepted, Error}
 
 -- a frame by its nodes, every other row by its operands' codes
 unfoldable pub judgementOf : List ℕ → List ℕ → Instruction → Judgement

@@ -10,11 +10,11 @@ use Rattle.tables.specs.First.{first}
 use Rattle.tables.specs.Rows.{nodeAt}
 use Rattle.tables.specs.declared.rows.Node.{Node}
 use Rattle.tables.specs.declared.rows.Instruction.{Instruction}
-use Rattle.words.specs.Real.{realAboveEpsilon}
-use Rattle.type_check.specs.Numbers.{imaginary, variable, nodeSpot}
-use Rattle.type_check.specs.Judgement.{Judgement, pass, undefinedMemoryReference, realValueRequired}
-use Rattle.type_check.specs.Rule.{undeclared}
-use Rattle.type_check.specs.Codes.{codeOf}
+use Rattle.reals.specs.Real.{realAboveEpsilon}
+use Rattle.type_rules.specs.Numbers.{imaginary, variable, nodeSpot}
+use Rattle.type_rules.specs.Judgement.{Judgement, pass, undefinedMemoryReference, realValueRequired}
+use Rattle.type_rules.specs.Rule.{undeclared}
+use Rattle.type_rules.specs.Codes.{codeOf}
 use Rattle.type_check.specs.declared.frame.NodeError.{NodeError}
 use Rattle.type_check.specs.declared.frame.NodeError.the-variants.{Undefined, NotReal}
 use Rattle.type_check.specs.declared.frame.NodeVerdict.{NodeVerdict}

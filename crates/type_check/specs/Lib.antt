@@ -1,8 +1,3 @@
-pub mod Numbers
-pub mod Judgement
-pub mod Rule
-pub mod Looks
-pub mod Codes
 pub mod Frame
 pub mod Check
 pub mod Names

@@ -3,24 +3,24 @@
 ghost use mathlib.Core.Path.{_≡_};
 ghost use Prim.Native.Nat.{_+_, _<_, _≤_};
 ghost use Rattle.tables.specs.Rows.{nodeRows};
-ghost use Rattle.type_check.specs.Judgement.{verdictAt};
-ghost use Rattle.type_check.specs.Codes.{codeOf};
+ghost use Rattle.type_rules.specs.Judgement.{verdictAt};
+ghost use Rattle.type_rules.specs.Codes.{codeOf};
 ghost use Rattle.type_check.specs.Frame.{addressRule, numberVerdict, nodeVerdict, treeVerdict, nodeFault, frameRule};
-use crate::code::IMAGINARY;
-use crate::code::NODE;
-use crate::code::VARIABLE;
-use crate::error::Verdict;
-use crate::error::real_value_required;
-use crate::error::undefined_memory_reference;
-use crate::rules::kind_at;
+use reals::real::above_epsilon;
 use tables::lookup::Found;
 use tables::lookup::lookup_region;
 use tables::node_tag;
 use tables::rows::Instruction;
 use tables::rows::Node;
 use tables::rows::node_at;
+use type_rules::code::IMAGINARY;
+use type_rules::code::NODE;
+use type_rules::code::VARIABLE;
+use type_rules::error::Verdict;
+use type_rules::error::real_value_required;
+use type_rules::error::undefined_memory_reference;
+use type_rules::rules::kind_at;
 use words::kind::REAL;
-use words::real::above_epsilon;
 
 pub enum NodeError {
     Undefined,

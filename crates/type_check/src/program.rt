@@ -2,22 +2,22 @@
 // Translated from quil-rs, program/type_check.rs (Apache-2.0), and changed: see NOTICE.
 ghost use mathlib.Core.Path.{_≡_};
 ghost use Rattle.type_check.specs.Check.{FrameInside, FramesInside, verdictOf, checkOf};
-use crate::error::Verdict;
 use crate::frame::check_frame;
-use crate::rules::type_check_arithmetic;
-use crate::rules::type_check_binary_logic;
-use crate::rules::type_check_comparison;
-use crate::rules::type_check_exchange;
-use crate::rules::type_check_load;
-use crate::rules::type_check_move;
-use crate::rules::type_check_store;
-use crate::rules::type_check_unary_logic;
 use tables::family;
 use tables::rows::INSTRUCTION_WIDTH;
 use tables::rows::Instruction;
 use tables::rows::instruction_at;
+use type_rules::error::Verdict;
+use type_rules::rules::type_check_arithmetic;
+use type_rules::rules::type_check_binary_logic;
+use type_rules::rules::type_check_comparison;
+use type_rules::rules::type_check_exchange;
+use type_rules::rules::type_check_load;
+use type_rules::rules::type_check_move;
+use type_rules::rules::type_check_store;
+use type_rules::rules::type_check_unary_logic;
 
-pub fn check_row(regions: &[u64], nodes: &[u64], row: u64, x: Instruction) -> Verdict
+fn check_row(regions: &[u64], nodes: &[u64], row: u64, x: Instruction) -> Verdict
     requires { ⌜ FrameInside (now nodes) x ⌝ }
     ensures { λ r. ⌜ r ≡ verdictOf (now (regions .entry)) (now (nodes .entry)) row x ⌝ }
 {

@@ -4,7 +4,5 @@ pub mod Wraps
 pub mod Halves
 pub mod Quotients
 pub mod Order
-pub mod Nan
-pub mod Size
 pub mod Widths
 pub mod Shifts

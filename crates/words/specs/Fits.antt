@@ -2,16 +2,12 @@
 use mathlib.Core.Path.{_≡_, refl, subst}
 use mathlib.Core.Bool.{Bool, true, false, _&&_, cond, false≢true}
 use Prim.Native.Nat.{ℕ, _^_, _<_}
-use lib.Dec.{ltb, eqb, lit<, T}
+use lib.Dec.{ltb, eqb, lit<}
 use lib.IntN.{negℤ, _+ℤ_, _-ℤ_, _*ℤ_}
 use lib.Signed.{quotZ}
-use lib.Ieee.{Float, binary64, fits}
-use lib.Ieee.Bits.{toBits-lt, ofBits-fits}
-use lib.Ieee.Fits.{add-fits, sub-fits, mul-fits, div-fits, neg-fits}
 use borrow.Author.Tests.{ltb-true, lt-ltb}
 use Rattle.words.specs.Kind.{widthOf, fitsKind}
 use Rattle.words.specs.Integer.{number, integerAdd, integerSubtract, integerMultiply, integerNegate, integerQuotient, integerDivide}
-use Rattle.words.specs.Real.{realValue, realPattern, realAdd, realSubtract, realMultiply, realDivide, realNegate}
 use Rattle.words.specs.Width.{lowBits, notAt, andAt, iorAt, xorAt, shlAt, shrAt, ashrAt, shifted, shiftLeft, shiftRight, shiftRightArithmetic}
 use Rattle.words.specs.WidthLaws.{word-below, low-below, not-below, and-below, ior-below, xor-below, shl-below, shr-below, ashr-below, shifted-word}
 use Rattle.words.specs.declared.integer.Quotient.the-variants as quotient
@@ -47,31 +43,6 @@ pub integerDivide-below : (a b r : ℕ) → integerDivide a b ≡ quotient.Word 
 unfolding integerQuotient
 integerDivide-below a b r e =
     subst (λ (n : ℕ). n < 2 ^ 64) (integerDivide-word a b r e) (word-below 64 (quotZ (number a) (number b)))
-
--- ---- REAL results
-
-pattern-below : (x : Float) → T (fits binary64 x) → realPattern x < 2 ^ 64
-pattern-below x h = toBits-lt binary64 x h
-
-pub realAdd-below : (a b : ℕ) → realAdd a b < 2 ^ 64
-unfolding realAdd
-realAdd-below a b = pattern-below _ (add-fits binary64 (realValue a) (realValue b))
-
-pub realSubtract-below : (a b : ℕ) → realSubtract a b < 2 ^ 64
-unfolding realSubtract
-realSubtract-below a b = pattern-below _ (sub-fits binary64 (realValue a) (realValue b))
-
-pub realMultiply-below : (a b : ℕ) → realMultiply a b < 2 ^ 64
-unfolding realMultiply
-realMultiply-below a b = pattern-below _ (mul-fits binary64 (realValue a) (realValue b))
-
-pub realDivide-below : (a b : ℕ) → realDivide a b < 2 ^ 64
-unfolding realDivide
-realDivide-below a b = pattern-below _ (div-fits binary64 (realValue a) (realValue b))
-
-pub realNegate-below : (a : ℕ) → realNegate a < 2 ^ 64
-unfolding realNegate
-realNegate-below a = pattern-below _ (neg-fits binary64 (realValue a) (ofBits-fits binary64 a))
 
 -- ---- a word that fits its kind, as two bounds and back
 

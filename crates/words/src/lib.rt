@@ -1,5 +1,4 @@
-// Operators on the words of cells: kinds and widths, two's complement, binary64, bits.
+// Operators on the words of cells: kinds and widths, two's complement, bits. REAL's are in reals.
 pub mod integer;
 pub mod kind;
-pub mod real;
 pub mod width;

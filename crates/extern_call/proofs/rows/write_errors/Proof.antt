@@ -1,6 +1,6 @@
 use Prim.Native.Nat.{_-_}
 use native.Mathlib.Omega.{arith}
-use Rattle.extern_call.specs.Errors.{errorRow}
+use Rattle.call_argument.specs.Errors.{errorRow}
 use Rattle.extern_call.specs.Call.{resolutionAt}
 use Rattle.extern_call.specs.Rows.{errorIn, errorsOf}
 use Rattle.extern_call.proofs.GatherLaws.{Written, written-start, written-turn, written-end}

@@ -1,6 +1,6 @@
 use Prim.Native.Nat.{_-_}
 use native.Mathlib.Omega.{arith}
-use Rattle.extern_call.specs.Resolved.{resolvedRow}
+use Rattle.call_argument.specs.Resolved.{resolvedRow}
 use Rattle.extern_call.specs.Call.{resolutionAt}
 use Rattle.extern_call.specs.Rows.{resolvedIn, resolvedArguments}
 use Rattle.extern_call.proofs.GatherLaws.{Written, written-start, written-turn, written-end}

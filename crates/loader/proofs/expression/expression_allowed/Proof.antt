@@ -8,7 +8,7 @@ use Rattle.loader.proofs.expression.expression_allowed.Statement.{state
 use Rattle.loader.proofs.expression.expression_allowed.Tie as tie
 use Rattle.loader.proofs.expression.expression_allowed.Reads as reads
 use Rattle.loader.proofs.expression.expression_allowed.Lts as lts
-use Rattle.loader.proofs.allowed.nodes_allowed.Reads as nodes-allowed-reads
+use Rattle.word_rules.proofs.allowed.nodes_allowed.Reads as nodes-allowed-reads
 use Rattle.loader.proofs.expression.tree_allowed.Reads as tree-allowed-reads
 use Rattle.tables.proofs.tree.range_inside.Reads as range-inside-reads
 

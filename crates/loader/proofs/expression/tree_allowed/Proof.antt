@@ -1,17 +1,17 @@
 use Prim.Native.Nat.{_+_, _-_, _≤_}
 use mathlib.Core.Path.{_≡_, refl, sym, _∙_}
 use native.Mathlib.Omega.{arith}
-use Rattle.loader.specs.Children.{childrenOf}
+use Rattle.word_rules.specs.Children.{childrenOf}
 use Rattle.loader.specs.Expression.{treesAllowed}
-use Rattle.loader.specs.declared.children.Children.the-variants.{Count}
-use Rattle.loader.proofs.ChildrenLaws.{children-le}
+use Rattle.word_rules.specs.declared.children.Children.the-variants.{Count}
+use Rattle.word_rules.proofs.ChildrenLaws.{children-le}
 use Rattle.loader.proofs.ExpressionLaws.{pass-stop, pass-refused, pass-left, pass-end}
 use borrow.Author.Needs.{needs}
 use Rattle.loader.proofs.expression.tree_allowed.Statement.{statement}
 use Rattle.loader.proofs.expression.tree_allowed.Tie as tie
 use Rattle.loader.proofs.expression.tree_allowed.Reads as reads
 use Rattle.loader.proofs.expression.tree_allowed.Lts as lts
-use Rattle.loader.proofs.children.children_of.Reads as children-of-reads
+use Rattle.word_rules.proofs.children.children_of.Reads as children-of-reads
 use Rattle.tables.proofs.rows.node_at.Reads as node-at-reads
 
 abbrev Inv-loop : tie.InvT-loop

@@ -1,14 +1,14 @@
-use Rattle.loader.proofs.NodesLaws.{all-allowed}
+use Rattle.loader.proofs.AllowedLaws.{all-allowed}
 use borrow.Author.Needs.{needs}
 use Rattle.loader.proofs.load.allowed_tables.Statement.{statement}
 use Rattle.loader.proofs.load.allowed_tables.Tie as tie
 use Rattle.loader.proofs.load.allowed_tables.Reads as reads
 use Rattle.loader.proofs.load.allowed_tables.Lts as lts
-use Rattle.loader.proofs.allowed.arguments_allowed.Reads as arguments-allowed-reads
-use Rattle.loader.proofs.allowed.externs_allowed.Reads as externs-allowed-reads
-use Rattle.loader.proofs.allowed.parameters_allowed.Reads as parameters-allowed-reads
-use Rattle.loader.proofs.allowed.regions_allowed.Reads as regions-allowed-reads
-use Rattle.loader.proofs.instruction.nodes_and_rows_allowed.Reads as nodes-and-rows-allowed-reads
+use Rattle.word_rules.proofs.allowed.arguments_allowed.Reads as arguments-allowed-reads
+use Rattle.word_rules.proofs.allowed.externs_allowed.Reads as externs-allowed-reads
+use Rattle.word_rules.proofs.allowed.parameters_allowed.Reads as parameters-allowed-reads
+use Rattle.word_rules.proofs.allowed.regions_allowed.Reads as regions-allowed-reads
+use Rattle.word_rules.proofs.instruction.nodes_and_rows_allowed.Reads as nodes-and-rows-allowed-reads
 
 regions-allowed-requires : tie.Need-regions-allowed-requires
 regions-allowed-requires c κs = search needs

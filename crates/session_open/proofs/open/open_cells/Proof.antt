@@ -5,7 +5,7 @@ use Rattle.tables.specs.declared.look.Look.{Look}
 use Rattle.tables.specs.Tables.{Tables, tablesOf}
 use Rattle.loader.proofs.Loaded.{Loaded, loaded}
 use Rattle.type_check.specs.Check.{checkOf}
-use Rattle.type_check.specs.declared.error.Verdict.the-variants.{Accepted}
+use Rattle.type_rules.specs.declared.error.Verdict.the-variants.{Accepted}
 use Rattle.type_check.proofs.CheckLaws.{loaded-frames}
 use Rattle.session_open.specs.Open.{callTables, callLook, callsLook, programLook, programVerdict, openCells}
 use Rattle.session_open.proofs.OpenLaws.{loaded-calls}

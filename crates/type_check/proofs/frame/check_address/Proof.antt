@@ -3,7 +3,7 @@ use borrow.Author.Tests.{ne-eqb}
 use borrow.Author.Needs.{needs}
 use Rattle.tables.proofs.LookupLaws.{lookup-within}
 use Rattle.type_check.specs.Frame.{addressRule}
-use Rattle.type_check.proofs.CodeLaws.{Kind, kind-read, code-none}
+use Rattle.type_rules.proofs.CodeLaws.{Kind, kind-read, code-none}
 use Rattle.type_check.proofs.frame.check_address.Statement.{statement}
 use Rattle.type_check.proofs.frame.check_address.Tie as tie
 

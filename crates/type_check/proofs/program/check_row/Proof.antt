@@ -1,7 +1,7 @@
 use mathlib.Core.Path.{refl}
 use borrow.Author.Needs.{needs}
 use Rattle.tables.specs.Cases.{caseOf}
-use Rattle.type_check.specs.Rule.{ruleOf}
+use Rattle.type_rules.specs.Rule.{ruleOf}
 use Rattle.type_check.specs.Check.{verdictOf}
 use Rattle.tables.specs.Family as family
 use Rattle.type_check.proofs.CheckLaws.{family-judgement, frame-judgement, other-judgement}

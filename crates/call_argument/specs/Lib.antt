@@ -1,0 +1,5 @@
+pub mod Argument
+pub mod Vectors
+pub mod Errors
+pub mod Resolved
+pub mod Resolve

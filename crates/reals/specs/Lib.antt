@@ -1,0 +1,4 @@
+-- REAL cells: the definitions (Real) and their laws (RealLaws, Fits).
+pub mod Real
+pub mod RealLaws
+pub mod Fits
