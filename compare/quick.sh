@@ -31,6 +31,11 @@ comparison() { build -p compare && target/release/compare --random 20000 --limit
 
 call_lists() { build -p sessions && target/release/sessions --lists 20000; }
 
+wrong_copies() (
+    . ./sensitivity.sh
+    lines_found
+)
+
 damaged_files() {
     (cd .. && rt check stepper) && damage/damage.py --runs 50 && damage/where.py
 }
@@ -54,6 +59,7 @@ quick() {
     step "the Rust session of at most 60 lines, built as its page says, writes its step.expected" rust_example
     step "a short comparison with quil-rs differs nowhere" comparison
     step "20,000 call lists differ nowhere and reach every refusal" call_lists
+    step "each wrong copy's line is in its file" wrong_copies
     step "damaged example files are read as docs/FORMAT.md says, and a refusal 1, 2 or 3 lies where it is told" damaged_files
     exit $missed
 }

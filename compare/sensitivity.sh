@@ -20,14 +20,26 @@ fresh() {
     esac
 }
 
-# changed EDIT: applied to that copy.
-changed() {
+# place EDIT: its file in that copy.
+place() {
     file=$(sed -n 's/^file: //p' "$1")
     case $1 in
-    wrong/library/* | wrong/steps/*) apply "$1" "target/copy/${file%%/*}/src/${file#*/}.rs" ;;
-    wrong/oracle/*) apply "$1" "target/quil-rs/src/$file" ;;
-    wrong/plain/*) apply "$1" "target/plain/src/$file" ;;
+    wrong/library/* | wrong/steps/*) echo "target/copy/${file%%/*}/src/${file#*/}.rs" ;;
+    wrong/oracle/*) echo "target/quil-rs/src/$file" ;;
+    wrong/plain/*) echo "target/plain/src/$file" ;;
     esac
+}
+
+# changed EDIT: applied to that copy.
+changed() { apply "$1" "$(place "$1")"; }
+
+# Each edit's line is in its file, which stays as it is: said before the first run, since a line may have moved.
+lines_found() {
+    mkdir -p target/wrong
+    for edit in wrong/*/*.edit; do
+        cp "$(place "$edit")" target/wrong/line || fail "$edit: no such file"
+        apply "$edit" target/wrong/line
+    done
 }
 
 # How many programs or lists a program plays.
@@ -82,7 +94,7 @@ each() {
 sensitivity() {
     unnoticed=0
     count=0
-    mkdir -p target/wrong
+    lines_found
     for set in ${*:-library oracle steps plain}; do
         case $set in
         library) agrees copy && each library copy copy ;;
