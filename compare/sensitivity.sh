@@ -1,14 +1,14 @@
-# Runs against deliberately wrong copies; sourced by run, in its folder, after build.sh. The sets:
+# Runs against deliberately wrong copies; sourced by run and by quick.sh, in their folder, after build.sh. The sets:
 #   library    wrong/library/*.edit    a line of ours changed in an unproved copy, against quil-rs
 #   oracle     wrong/oracle/*.edit     a line of quil-rs's changed, against the proved library
 #   steps      wrong/steps/*.edit      a line of ours changed in an unproved copy, call lists against the plain machine
 #   plain      wrong/plain/*.edit      a line of the plain machine's changed, call lists against the proved library
 
-# apply EDIT FILE: the line is there exactly once.
+# apply EDIT FILE [PLACE]: the line is there exactly once; PLACE is what FILE is a copy of.
 apply() {
     OLD=$(sed -n 's/^old: //p' "$1") NEW=$(sed -n 's/^new: //p' "$1") perl -pi -e '
         $found += s/\Q$ENV{OLD}\E/$ENV{NEW}/;
-        END { exit($found == 1 ? 0 : 1) }' "$2" || fail "$1 does not apply to $2"
+        END { exit($found == 1 ? 0 : 1) }' "$2" || fail "$1 does not apply to ${3:-$2}"
 }
 
 # fresh SET: the copy that its edits change, as it should be.
@@ -37,8 +37,9 @@ changed() { apply "$1" "$(place "$1")"; }
 lines_found() {
     mkdir -p target/wrong
     for edit in wrong/*/*.edit; do
-        cp "$(place "$edit")" target/wrong/line || fail "$edit: no such file"
-        apply "$edit" target/wrong/line
+        where=$(place "$edit")
+        cp "$where" target/wrong/line || fail "$edit: there is no $where"
+        apply "$edit" target/wrong/line "$where"
     done
 }
 

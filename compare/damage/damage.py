@@ -3,7 +3,7 @@
 
 Usage: compare/damage/damage.py [--seed N] [--runs N] [--show N] [--program PATH]
 
-N damaged copies (200) of each file under examples/ and of the two programs' own files are read by the console's program,
+N damaged copies (200) of each file under examples/ and of the program's own two files are read by the console's program,
 `target/bin/stepper tables FILE`, and by reader.py, which is written from docs/FORMAT.md and the laboratory's paper.
 Both must refuse the same line, or give the same six tables word for word. Each file is read undamaged first, and so
 are the files of edges.py.

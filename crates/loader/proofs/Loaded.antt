@@ -1,13 +1,12 @@
 -- What tables are that the loader accepts: the facts that the layers above cite. Assumes nothing.
 use Prim.Native.Nat.{ℕ, _+_, _/_, _%_, _<_, _≤_}
-use mathlib.Core.Bool.{Bool, true, false, _&&_}
-use mathlib.Core.List.{List, [], _∷_}
-use mathlib.Core.Path.{_≡_, refl, sym, ap, _∙_}
-use native.Mathlib.Omega.{arith}
-use lib.ListN.{length, getD}
+use mathlib.Core.Bool.{Bool, true, _&&_}
+use mathlib.Core.List.{List}
+use mathlib.Core.Path.{_≡_}
+use lib.ListN.{length}
 use lib.Dec.{eqb, ltb, leb}
 use borrow.Author.Tests.{ltb-true, leb-true, eqb-true}
-use Rattle.tables.specs.Outcome.{Outcome, ok, refuse, _>>=_, _>>_, need}
+use Rattle.tables.specs.Outcome.{ok}
 use Rattle.tables.specs.Tables.{Tables}
 use Rattle.tables.specs.Rows as R
 use Rattle.tables.specs.Family as family
@@ -16,7 +15,6 @@ use Rattle.loader.specs.Shape.{wholeRows, wholeTables}
 use Rattle.word_rules.specs.Allowed as A
 use Rattle.word_rules.specs.Instruction as I
 use Rattle.loader.specs.Load.{allowedTables, chosenRow, distinctNames, loadLook, loadRowLook, loadNodesLook}
-use Rattle.tables.specs.declared.rows.Instruction.{Instruction}
 use Rattle.tables.proofs.FirstLaws.{every-row}
 use Rattle.tables.proofs.Passed.{both, passed, needed}
 use Rattle.tables.proofs.TreeLaws.{inside-le}

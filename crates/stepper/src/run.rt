@@ -87,6 +87,7 @@ fn argument(at: usize, only_check: bool, desk: Desk) -> bool {
     false
 }
 
+// All arguments, one after the other. After a last `check` there is no file to read.
 fn arguments(desk: Desk) {
     let count = os::arg_count();
     let mut at = 1;
@@ -94,6 +95,9 @@ fn arguments(desk: Desk) {
     while at < count {
         only_check = argument(at, only_check, desk);
         at += 1;
+    }
+    if only_check {
+        verdict(State::NoFile);
     }
 }
 

@@ -3,7 +3,7 @@ use Prim.Native.Nat.{ℕ}
 use mathlib.Core.Bool.{Bool, true, false, _&&_}
 use mathlib.Core.Path.{_≡_, refl}
 use native.Mathlib.Omega.{arith}
-use Rattle.tables.specs.Outcome.{Outcome, ok, _>>=_, _>>_, need}
+use Rattle.tables.specs.Outcome.{Outcome, ok, _>>_, need}
 use Rattle.tables.proofs.FirstLaws.{never}
 
 pub both : (a b : Bool) → a && b ≡ true → (a ≡ true) × (b ≡ true)

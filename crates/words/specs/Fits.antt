@@ -1,4 +1,4 @@
--- Every result is a word of its kind: the width laws used at 1, 8 and 64. Assumes nothing.
+-- Every INTEGER result and every result of bits is a word of its kind: the width laws used at 1, 8 and 64. Assumes nothing.
 use mathlib.Core.Path.{_≡_, refl, subst}
 use mathlib.Core.Bool.{Bool, true, false, _&&_, cond, false≢true}
 use Prim.Native.Nat.{ℕ, _^_, _<_}

@@ -31,7 +31,13 @@ loop-again c = search needs
 returns : tie.Need-returns Inv-loop μ-loop
 returns c = search needs
 
+verdict-requires : tie.Need-verdict-requires Inv-loop μ-loop
+verdict-requires c κs = search needs
+
+returns-2 : tie.Need-returns-2 Inv-loop μ-loop
+returns-2 c = search needs
+
 pub arguments-spec : {M : Type 1} → statement M
 arguments-spec =
     tie.close
-    (tie.spec Inv-loop μ-loop arg-count-requires loop-holds argument-requires add-at loop-less loop-again returns)
+    (tie.spec Inv-loop μ-loop arg-count-requires loop-holds argument-requires add-at loop-less loop-again verdict-requires returns returns-2)
