@@ -9,6 +9,7 @@ use borrow.Author.Tests.{eq-eqb, lt-ltb, eqb-true, ltb-true}
 use lib.Dec.{eqb, ltb}
 use lib.ListN.{length, getD, set, take, drop, length-append, length-drop, take-append-drop, drop-of-length-le}
 use lib.Seq.{sets, sets-eq, length-sets, set-comm, take-suc, take-add, take-take, take-set-le, take-append-seam, drop-drop, drop-append-add, drop-append-le, getD-take, length-take-le}
+use Rattle.tables.proofs.Passed.{both}
 use Rattle.extern_call.specs.Gather.{gather}
 use Rattle.access_sets.specs.Set.{inserted, insertAll, Ascending}
 use Rattle.access_sets.specs.Inner.{Listed, below}
@@ -54,10 +55,6 @@ module _ (now : List ℕ) (place name i : ℕ) (room : i < length now) where
       let n = length-take-le i now (omega arith) in
       let k : length (take i now) ≤ place = omega arith in
       rw (drop-of-length-le (take i now) k)
-
-both : (a b : Bool) → (a && b) ≡ true → (a ≡ true) × (b ≡ true)
-both true b e = (refl, e)
-both false b e = (e, cc)
 
 -- the name at its place, tested as the code does
 module _ (l : List ℕ) (count name place : ℕ) (room : count < length l) (at : (place ≤ count) × (place ≡ below name (take count l))) where

@@ -1,6 +1,6 @@
 -- The references of exactly one tree are its address rows, in row order. Assumes nothing.
 use Prim.Native.Nat.{ℕ, zero, suc, _+_, _-_, _*_, _≤_}
-use mathlib.Core.Bool.{Bool, true, false, cond, _&&_}
+use mathlib.Core.Bool.{Bool, true, false, cond}
 use mathlib.Core.List.{List, _∷_, _++_}
 use mathlib.Core.Path.{_≡_, refl, sym, ap, _∙_}
 use native.Mathlib.Numerals.{add-one}
@@ -10,13 +10,10 @@ use lib.Dec.{eqb}
 use Rattle.tables.proofs.FirstLaws.{never}
 use Rattle.tables.specs.Rows.{nodeWidth, nodeRows, nodeTag}
 use Rattle.tables.specs.Tree.{arityOf, treesFrom, inside, oneTree}
+use Rattle.tables.proofs.Passed.{both}
 use Rattle.tables.proofs.TreeLaws.{arity-le, inside-le}
 use Rattle.memory.specs.References.{isAddress, referenceAt, Walked, treeAt, references, rowReferences}
 use Rattle.memory.specs.declared.MemoryReference.{MemoryReference}
-
-both : (a b : Bool) → (a && b) ≡ true → (a ≡ true) × (b ≡ true)
-both true b e = (refl, e)
-both false b e = never e
 
 module _ (nodes : List ℕ) (i n : ℕ) (e : oneTree nodes i n ≡ true) where
   parts : (inside i n (nodeRows nodes) ≡ true) × (treesFrom nodes 1 i n ≡ true)
