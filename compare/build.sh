@@ -50,11 +50,11 @@ sources() {
     done <quil-rs.sha256
 }
 
-# The plain machine, copied so that a sensitivity run can change a line of it.
-plain() {
-    rm -rf target/plain
+# changeable NAME: oracle or plain, copied so that a sensitivity run can change a line of it.
+changeable() {
+    rm -rf "target/$1"
     mkdir -p target
-    cp -r plain target/plain
+    cp -r "$1" "target/$1"
 }
 
 # The proved library.
@@ -92,7 +92,8 @@ copy_crate() {
 prepare() {
     packages
     sources
-    plain
+    changeable oracle
+    changeable plain
     library
     copy
 }
@@ -108,8 +109,8 @@ offline() {
 
 build() { offline build "$@"; }
 
-# 01's bench lines, by hand, on the plain machine.
+# The bench lines, by hand, on the plain machine.
 bench_lines() {
-    say "01's bench lines on the plain machine"
-    offline test -p plain >target/bench_lines.log 2>&1 || fail "not as 01 says: see compare/target/bench_lines.log"
+    say "the bench lines on the plain machine"
+    offline test -p plain >target/bench_lines.log 2>&1 || fail "not as the papers say: see compare/target/bench_lines.log"
 }

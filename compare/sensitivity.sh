@@ -1,6 +1,7 @@
 # Runs against deliberately wrong copies; sourced by run and by quick.sh, in their folder, after build.sh. The sets:
 #   library    wrong/library/*.edit    a line of ours changed in an unproved copy, against quil-rs
 #   oracle     wrong/oracle/*.edit     a line of quil-rs's changed, against the proved library
+#   parting    wrong/parting/*.edit    a line of what is expected in place of quil-rs's answer changed, against the proved library
 #   steps      wrong/steps/*.edit      a line of ours changed in an unproved copy, call lists against the plain machine
 #   plain      wrong/plain/*.edit      a line of the plain machine's changed, call lists against the proved library
 
@@ -16,7 +17,8 @@ fresh() {
     case $1 in
     library | steps) copy ;;
     oracle) sources ;;
-    plain) plain ;;
+    parting) changeable oracle ;;
+    plain) changeable plain ;;
     esac
 }
 
@@ -26,6 +28,7 @@ place() {
     case $1 in
     wrong/library/* | wrong/steps/*) echo "target/copy/${file%%/*}/src/${file#*/}.rs" ;;
     wrong/oracle/*) echo "target/quil-rs/src/$file" ;;
+    wrong/parting/*) echo "target/oracle/src/$file" ;;
     wrong/plain/*) echo "target/plain/src/$file" ;;
     esac
 }
@@ -96,10 +99,10 @@ sensitivity() {
     unnoticed=0
     count=0
     lines_found
-    for set in ${*:-library oracle steps plain}; do
+    for set in ${*:-library oracle parting steps plain}; do
         case $set in
         library) agrees copy && each library copy copy ;;
-        oracle) each oracle compare compare ;;
+        oracle | parting) each "$set" compare compare ;;
         steps) agrees copy_sessions && each steps copy copy_sessions ;;
         plain) each plain sessions sessions ;;
         *) fail "no such set: $set" ;;

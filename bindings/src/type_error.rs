@@ -18,8 +18,7 @@ pub struct TypeError {
 #[derive(Clone, Copy, Debug, PartialEq, Eq)]
 #[non_exhaustive]
 pub enum TypeErrorKind {
-    /// 1: the operand is not declared. For a STORE's source that is not declared the spot is the offset's, as in
-    /// quil-rs.
+    /// 1: the operand is not declared.
     Undefined,
     /// 2: the two operands do not go together.
     DataType {

@@ -1,4 +1,4 @@
-//! The ten bench lines of document 01, through the wrapper.
+//! The ten bench lines of document 01, the third as 02 has it, through the wrapper.
 mod bench;
 
 use bench::*;
@@ -46,11 +46,11 @@ fn add_to_a_bit() {
 }
 
 #[test]
-fn store_of_an_undeclared_source_names_the_offset() {
+fn store_of_an_undeclared_source_names_it() {
     let row = Instruction::Store { destination: N, offset: at(N, 0), source: Source::Reference(at(Q, 0)) }.row();
     let error = type_error(row);
-    assert_eq!(told(error), (TypeErrorKind::Undefined, Spot::Second, None));
-    assert_eq!(error.to_string(), "type error 1 in row 0: the second operand is not declared");
+    assert_eq!(told(error), (TypeErrorKind::Undefined, Spot::Source, None));
+    assert_eq!(error.to_string(), "type error 1 in row 0: the source is not declared");
 }
 
 #[test]

@@ -1,10 +1,10 @@
 #!/usr/bin/env python3
 """Writes the script that cases_calls plays, `stdin`, and what it must write, `stdout`, beside itself.
 
-The answers come from `rules/`, written from document 01, docs/DECISIONS.md, the C header and, for the kept calls, quil-rs's
+The answers come from `rules/`, written from documents 01 and 02, docs/DECISIONS.md, the C header and, for the kept calls, quil-rs's
 source, without a look at the proved definitions or at the code of their rules. Seen of the code: the types of the
 answers, the position and the type error, the first lines of the looks that open, forward and back share, and cases with
-their answers. For `quil-rs.answers` they are quil-rs's, and the rules must give the same.
+their answers. For `quil-rs.answers` they are the list's, and the rules must give the same.
 The cases are in `cases/`. The same output at each run.
 """
 import sys

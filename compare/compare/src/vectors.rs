@@ -1,4 +1,4 @@
-//! The fixed list of quil-rs's answers that crates/cases_calls replays (its cases/quil_rs.py asks it): a sample of every set, a question a line.
+//! The fixed list of the oracle's answers that crates/cases_calls replays (its cases/quil_rs.py asks it): a sample of every set, a question a line.
 //!
 //! A line is words in hexadecimal. A list is its length, then its words; of a table each row has its first LISTED words.
 //!   call (1 check, 2 resolve, 3 access, 4 memory_references), the six tables as lists, then
@@ -40,7 +40,7 @@ pub fn write() -> bool {
 }
 
 fn header() -> String {
-    "# quil-rs's answers at 5a4668c218, as compare/compare/src/vectors.rs lays them out.\n\
+    "# quil-rs's answers at 5a4668c218, compare/oracle/src/parting.rs apart, as compare/compare/src/vectors.rs lays them out.\n\
      # Made by: compare/run --vectors > crates/cases_calls/quil-rs.answers\n"
         .to_string()
 }

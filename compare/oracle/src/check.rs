@@ -1,6 +1,7 @@
 //! The type check's verdict, and its error as six words.
 use crate::{
     names::{mark, marked, name},
+    parting,
     program::{frame_row, program, Naming},
 };
 use quil_rs::{
@@ -18,8 +19,9 @@ pub fn answer(tables: &Tables) -> Result<Answer, String> {
     match (verdict, error) {
         (Ok(()), Ok(())) => Ok(Answer::untouched(0, 6, &[])),
         (Err(shown), Err(marked)) => {
-            let out = words(&marked)?;
+            let mut out = words(&marked)?;
             agree(tables, &plain, &shown, &marked, out[1] as usize)?;
+            out[2] = parting::spot(&plain, &shown, out[2]);
             let mut answer = Answer::untouched(5, 6, &[]);
             answer.out = out;
             Ok(answer)

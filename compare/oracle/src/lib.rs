@@ -1,15 +1,17 @@
-//! quil-rs's answers about a program in tables: tables to quil-rs's types, its own functions, its results to words.
+//! quil-rs's answers about a program in tables: tables to quil-rs's types, its own functions, its results to words,
+//! and in one case the laboratory's answer in place of them (`parting`).
 //! What makes the types is public, so that the measurement runs quil-rs on the same ones.
 mod call;
 mod check;
 pub mod expression;
 mod names;
+mod parting;
 pub mod program;
 pub mod signatures;
 
 use tables::{Answer, Query, Tables};
 
-/// quil-rs's answer with the buffers as they should be left, or why there is none.
+/// The answer to expect, with the buffers as they should be left, or why there is none.
 pub fn answer(tables: &Tables, query: Query) -> Result<Answer, String> {
     match query {
         Query::Check => check::answer(tables),

@@ -1,4 +1,4 @@
-//! A plain machine for open, forward and back, written from the paper (01) and docs/DECISIONS.md: not from the library's definitions
+//! A plain machine for open, forward and back, written from the papers (01, 02) and docs/DECISIONS.md: not from the library's definitions
 //! and not from quil-rs. It is slow and looks at everything anew in each call.
 mod call;
 mod check;

@@ -1,4 +1,4 @@
-//! 01's ten bench lines on the plain machine: a BIT[2], n INTEGER[3], o OCTET[1], r REAL[2].
+//! 01's ten bench lines, the third as 02 has it, on the plain machine: a BIT[2], n INTEGER[3], o OCTET[1], r REAL[2].
 use plain::Plain;
 use tables::{Session, Tables};
 
@@ -77,7 +77,7 @@ fn add_to_a_bit() {
 #[test]
 fn store_of_an_undeclared_source() {
     let mut bench = bench(&[[7, 0, N, 0, N, 0, 2, UNDECLARED, 0]], 64);
-    assert_eq!((bench.open(), bench.error), (5, [1, 0, 2, 0, 8, 8]));
+    assert_eq!((bench.open(), bench.error), (5, [1, 0, 3, 0, 8, 8]));
 }
 
 #[test]

@@ -1,4 +1,4 @@
-"""Document 01's bench examples, with the results that it states: they hold the model to the paper."""
+"""Document 01's bench examples, with the results that it states, the STORE's as 02 has it: they hold the model to the papers."""
 from rules.words import WORD
 
 from . import quil
@@ -24,7 +24,7 @@ def checked(bench):
     bench.expect(11, bench.script.forward(), 'the empty program')
     type_error(bench, 'ADD a[0] 1.5', 2)
     type_error(bench, 'ADD a[0] 1', 4)
-    type_error(bench, 'STORE n n[0] q[0]', 1, 2)
+    type_error(bench, 'STORE n n[0] q[0]', 1, 3)
     opened(bench, 0, 'imaginary 3CB0000000000000', **framed([3, 0, 0x3CB0000000000000]))
     opened(bench, 5, 'imaginary 3CB0000000000001', **framed([3, 0, 0x3CB0000000000001]))
 

@@ -1,4 +1,4 @@
-"""quil-rs's own answers: the fixed list that compare/compare/src/vectors.rs makes and lays out, asked again.
+"""quil-rs's answers, one parting apart (compare/oracle/src/parting.rs): the fixed list that compare/compare/src/vectors.rs makes and lays out, asked again.
 
 The answers that must come are the list's; the rules here have to give the same.
 """

@@ -1,4 +1,4 @@
-"""Worked examples with the results that 01's sentences give them: words, CALLs and walks. They hold the model to the paper."""
+"""Worked examples with the results that 01's and 02's sentences give them: words, CALLs and walks. They hold the model to the papers."""
 from rules.tables import *
 
 
@@ -52,7 +52,7 @@ def kinds(bench):
 
 def verdicts(bench):
     """The bench examples of the type check, by check."""
-    for row, answer in (('', ''), ('ADD a[0] 1.5', '2 0 1 3 0 5'), ('ADD a[0] 1', '4 0 1 0 0 9'), ('STORE n n[0] q[0]', '1 0 2 0 8 8')):
+    for row, answer in (('', ''), ('ADD a[0] 1.5', '2 0 1 3 0 5'), ('ADD a[0] 1', '4 0 1 0 0 9'), ('STORE n n[0] q[0]', '1 0 3 0 8 8')):
         checked(bench.script, row or 'no row', [row] if row else [])
         said(bench.script, 'check 5 | {} | |'.format(answer) if answer else 'check 0 | | |')
     for imaginary, answer in ((0x3CB0000000000000, 'check 0 | | |'), (0x3CB0000000000001, 'check 5 | 3 0 4 0 6 8 | |')):

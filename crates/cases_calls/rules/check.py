@@ -134,7 +134,7 @@ def store_row(row, regions):
         return None if literal_fits(row.form, kind) else data_type(SOURCE, FIRST, literal_code(row.form), kind)
     source = kind_of(regions, row.source)
     if source is None:
-        return undefined(SECOND)
+        return undefined(SOURCE)
     return None if source == kind else data_type(SOURCE, FIRST, source, kind)
 
 

@@ -5,7 +5,7 @@ use mathlib.Core.Path.{_≡_, refl}
 use Rattle.tables.specs.Bench.{a, n, o, r, q}
 use Rattle.tables.specs.Refusal.{atEnd, journalFull, indexPastLength, negativeShiftCount}
 use Rattle.words.specs.Kind.{bit, integer, octet, real, realLiteral}
-use Rattle.type_rules.specs.Numbers.{imaginary, realOrIntegral, firstSpot, secondSpot, sourceSpot, nodeSpot}
+use Rattle.type_rules.specs.Numbers.{imaginary, realOrIntegral, firstSpot, sourceSpot, nodeSpot}
 use Rattle.type_rules.specs.Judgement.{Judgement, undefinedMemoryReference, dataTypeMismatch, realValueRequired, operatorOperandMismatch, verdictAt}
 use Rattle.type_rules.specs.declared.error.Verdict.{Verdict}
 use Rattle.type_rules.specs.declared.error.Verdict.the-variants as T
@@ -58,8 +58,8 @@ pub record Bench : Type 0 where
   pub add :
       (run [] (ADD-REAL a bits) 4 [] .opening ≡ failing (dataTypeMismatch firstSpot sourceSpot bit realLiteral))
       × (run [] (ADD-INTEGER a 1) 4 [] .opening ≡ failing (operatorOperandMismatch firstSpot bit realOrIntegral))
-  -- "STORE n n[0] q[0] with q undeclared is error 1, spot 2."
-  pub store-undeclared : run [] (STORE n n q) 4 [] .opening ≡ failing (undefinedMemoryReference secondSpot)
+  -- "STORE n n[0] q[0] with q undeclared is error 1", by 02, P1, "at spot 3, in the bench example too"
+  pub store-undeclared : run [] (STORE n n q) 4 [] .opening ≡ failing (undefinedMemoryReference sourceSpot)
   -- "MOVE o[0] 300 leaves 44."
   pub move-300 : run [] (MOVE o 300) 4 (step ∷ []) .memory ≡ cells 0 44 0 0
   -- "-7 by 2 is -3."

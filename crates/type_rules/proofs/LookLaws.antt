@@ -3,7 +3,7 @@ use Prim.Native.Nat.{ℕ}
 use mathlib.Core.Bool.{Bool, true, false, cond}
 use mathlib.Core.List.{[], _∷_}
 use mathlib.Core.Path.{_≡_, refl, sym, subst, _∙_}
-use Rattle.type_rules.specs.Numbers.{firstSpot, secondSpot}
+use Rattle.type_rules.specs.Numbers.{firstSpot, secondSpot, sourceSpot}
 use Rattle.type_rules.specs.Judgement.{Judgement, undefinedMemoryReference, judge, verdictAt}
 use Rattle.type_rules.specs.Rule.{undeclared, misfits}
 use Rattle.type_rules.specs.Looks.{undeclaredAt, pairOf, fitOf}
@@ -28,17 +28,17 @@ module _ (row first second : ℕ) where
       at false true p q = λ other. rw (p, q)
       at false false p q = (refl, refl, p, q)
 
-module _ (row spot kind source : ℕ) where
+module _ (row kind source : ℕ) where
   abbrev pub FitTold : Fit → Type 0
   FitTold fit.Fits = (undeclared source ≡ false) × (misfits kind source ≡ false)
-  FitTold (fit.Error error) = (undeclared source ≡ true) × (error ≡ undeclaredAt row spot)
+  FitTold (fit.Error error) = (undeclared source ≡ true) × (error ≡ undeclaredAt row sourceSpot)
   FitTold (fit.Misfits code) = (undeclared source ≡ false) × (misfits kind source ≡ true) × (source ≡ code)
 
-  pub fit-told : {r f : Fit} → r ≡ fitOf row spot kind source → r ≡ f → FitTold f
+  pub fit-told : {r f : Fit} → r ≡ fitOf row kind source → r ≡ f → FitTold f
   unfolding fitOf
   fit-told e g = subst FitTold (sym e ∙ g) (at (undeclared source) (misfits kind source) refl refl)
     where
-      at : (a b : Bool) → undeclared source ≡ a → misfits kind source ≡ b → FitTold (cond a (fit.Error (undeclaredAt row spot)) (cond b (fit.Misfits source) fit.Fits))
+      at : (a b : Bool) → undeclared source ≡ a → misfits kind source ≡ b → FitTold (cond a (fit.Error (undeclaredAt row sourceSpot)) (cond b (fit.Misfits source) fit.Fits))
       at true b p q = (p, refl)
       at false true p q = (p, q, refl)
       at false false p q = (p, q)

@@ -2,7 +2,7 @@
 -- ends the look with its error. The rules themselves are in Rule.antt.
 use Prim.Native.Nat.{ℕ}
 use mathlib.Core.Bool.{cond}
-use Rattle.type_rules.specs.Numbers.{firstSpot, secondSpot}
+use Rattle.type_rules.specs.Numbers.{firstSpot, secondSpot, sourceSpot}
 use Rattle.type_rules.specs.Judgement.{undefinedMemoryReference, verdictAt}
 use Rattle.type_rules.specs.Rule.{undeclared, misfits}
 use Rattle.type_rules.specs.declared.error.Verdict.{Verdict}
@@ -22,9 +22,9 @@ pairOf row first second =
     (pair.Error (undeclaredAt row firstSpot))
     (cond (undeclared second) (pair.Error (undeclaredAt row secondSpot)) (pair.Kinds first second))
 
--- of STORE: "kinds as for move"; `spot` is the one that an error names where the source is undeclared
-unfoldable pub fitOf : ℕ → ℕ → ℕ → ℕ → Fit
-fitOf row spot kind source =
+-- "source declared, same kind or 2"; of STORE: "kinds as for move"
+unfoldable pub fitOf : ℕ → ℕ → ℕ → Fit
+fitOf row kind source =
     cond (undeclared source)
-    (fit.Error (undeclaredAt row spot))
+    (fit.Error (undeclaredAt row sourceSpot))
     (cond (misfits kind source) (fit.Misfits source) fit.Fits)

@@ -44,10 +44,6 @@ secondSpot = 2
 abbrev pub sourceSpot : ℕ
 sourceSpot = 3
 
--- of STORE: "an undeclared source is error 1 naming the offset"
-abbrev pub storeSourceSpot : ℕ
-storeSourceSpot = secondSpot
-
 -- where an error has no `src`
 abbrev pub noSpot : ℕ
 noSpot = 0

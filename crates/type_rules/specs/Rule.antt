@@ -9,7 +9,7 @@ use Rattle.words.specs.Kind.{bit, integer, octet, real, integerLiteral, realLit
 use Rattle.tables.specs.Cases.{caseOf}
 use Rattle.tables.specs.Family as family
 use Rattle.tables.specs.Operator as operator
-use Rattle.type_rules.specs.Numbers.{absent, realOrIntegral, integral, bitOnly, firstSpot, secondSpot, sourceSpot, storeSourceSpot}
+use Rattle.type_rules.specs.Numbers.{absent, realOrIntegral, integral, bitOnly, firstSpot, secondSpot, sourceSpot}
 use Rattle.type_rules.specs.Judgement.{Judgement, pass, undefinedMemoryReference, dataTypeMismatch, operatorOperandMismatch, judge}
 
 abbrev pub undeclared : ℕ → Bool
@@ -134,11 +134,11 @@ loadRule destination source offset =
     ∷ [])
     (loadOffset destination source offset)
 
--- "an undeclared source is error 1 naming the offset; kinds as for move, or 2 with source as `dst`"
+-- 02, P1: "An undeclared source is now error 1 at spot 3"; 01: "kinds as for move, or 2 with source as `dst`"
 unfoldable pub storeSource : ℕ → ℕ → Judgement
 storeSource destination source =
     judge
-    ((undeclared source, undefinedMemoryReference storeSourceSpot)
+    ((undeclared source, undefinedMemoryReference sourceSpot)
     ∷ (misfits destination source, dataTypeMismatch sourceSpot firstSpot source destination)
     ∷ [])
     pass

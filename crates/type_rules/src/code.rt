@@ -30,8 +30,5 @@ pub const SECOND: u64 = 2;
 
 pub const SOURCE: u64 = 3;
 
-// quil-rs names the offset where a STORE's source is undeclared.
-pub const STORE_SOURCE: u64 = SECOND;
-
 // A frame's first node; the others follow in row order.
 pub const NODE: u64 = 4;

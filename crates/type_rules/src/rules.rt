@@ -13,7 +13,6 @@ use crate::code::INTEGRAL;
 use crate::code::REAL_OR_INTEGRAL;
 use crate::code::SECOND;
 use crate::code::SOURCE;
-use crate::code::STORE_SOURCE;
 use crate::error::Verdict;
 use crate::error::data_type_mismatch;
 use crate::error::operator_operand_mismatch;
@@ -100,11 +99,11 @@ pub fn type_check_arithmetic(regions: &[u64], row: u64, x: Instruction) -> Verdi
     }
 }
 
-fn reference_fit(regions: &[u64], row: u64, spot: u64, kind: u64, name: u64) -> Fit
-    ensures { λ r. ⌜ r ≡ fitOf row spot kind (codeOf (now (regions .entry)) name) ⌝ }
+fn reference_fit(regions: &[u64], row: u64, kind: u64, name: u64) -> Fit
+    ensures { λ r. ⌜ r ≡ fitOf row kind (codeOf (now (regions .entry)) name) ⌝ }
 {
     let Found::At(region) = lookup_region(regions, name) else {
-        return Fit::Error(undefined_memory_reference(row, spot));
+        return Fit::Error(undefined_memory_reference(row, SOURCE));
     };
     let source = kind_at(regions, region);
     if kind == source {
@@ -114,9 +113,8 @@ fn reference_fit(regions: &[u64], row: u64, spot: u64, kind: u64, name: u64) -> 
     }
 }
 
-// `spot` is the one that an error names where the source is undeclared.
-fn source_fit(regions: &[u64], row: u64, spot: u64, kind: u64, x: Instruction) -> Fit
-    ensures { λ r. ⌜ r ≡ fitOf row spot kind (operandCode (now (regions .entry)) x) ⌝ }
+fn source_fit(regions: &[u64], row: u64, kind: u64, x: Instruction) -> Fit
+    ensures { λ r. ⌜ r ≡ fitOf row kind (operandCode (now (regions .entry)) x) ⌝ }
 {
     let form = x.source_form;
     match form {
@@ -128,7 +126,7 @@ fn source_fit(regions: &[u64], row: u64, spot: u64, kind: u64, x: Instruction) -
             BIT..=OCTET => Fit::Misfits(REAL_LITERAL),
             _ => Fit::Fits,
         },
-        _ => reference_fit(regions, row, spot, kind, x.source_first),
+        _ => reference_fit(regions, row, kind, x.source_first),
     }
 }
 
@@ -136,7 +134,7 @@ fn source_fit(regions: &[u64], row: u64, spot: u64, kind: u64, x: Instruction) -
 fn check_source(regions: &[u64], row: u64, spot: u64, kind: u64, x: Instruction) -> Verdict
     ensures { λ r. ⌜ r ≡ verdictAt row (sourceRule spot kind (operandCode (now (regions .entry)) x)) ⌝ }
 {
-    match source_fit(regions, row, SOURCE, kind, x) {
+    match source_fit(regions, row, kind, x) {
         Fit::Fits => Verdict::Accepted,
         Fit::Error(error) => error,
         Fit::Misfits(source) => data_type_mismatch(row, spot, SOURCE, kind, source),
@@ -286,7 +284,7 @@ pub fn type_check_load(regions: &[u64], row: u64, x: Instruction) -> Verdict
 fn store_source(regions: &[u64], row: u64, destination: u64, x: Instruction) -> Verdict
     ensures { λ r. ⌜ r ≡ verdictAt row (storeSource destination (operandCode (now (regions .entry)) x)) ⌝ }
 {
-    match source_fit(regions, row, STORE_SOURCE, destination, x) {
+    match source_fit(regions, row, destination, x) {
         Fit::Fits => Verdict::Accepted,
         Fit::Error(error) => error,
         Fit::Misfits(source) => data_type_mismatch(row, SOURCE, FIRST, source, destination),
