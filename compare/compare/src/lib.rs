@@ -114,7 +114,7 @@ impl Comparison {
         let tables = program.tables();
         println!("DIFFERS\n{}{}", words_text(&tables), quil_text(&tables));
         if let Some(Difference { query, expected, got }) = differs(&program) {
-            println!("asked   {query:?}\nquil-rs {expected:x?}\nlibrary {got:x?}\n");
+            println!("asked    {query:?}\nexpected {expected:x?}\nlibrary  {got:x?}\n");
         }
     }
 }

@@ -1,5 +1,5 @@
 //! quil-rs's answers about a program in tables: tables to quil-rs's types, its own functions, its results to words,
-//! and in one case the laboratory's answer in place of them (`parting`).
+//! in one case with the laboratory's spot in place of quil-rs's (`parting`).
 //! What makes the types is public, so that the measurement runs quil-rs on the same ones.
 mod call;
 mod check;

@@ -121,7 +121,7 @@ fn store(t: &Tables, destination: u64, offset: u64, source: Source) -> Judged {
     require(index == INTEGER, [4, SECOND, 0, index, INTEGRAL])?;
     literal_fits(dst, source).map_err(|src| [2, SOURCE, FIRST, src, dst])?;
     if let Source::Reference(reference) = source {
-        // 02, P1: "An undeclared source is now error 1 at spot 3."
+        // 02, P1: "An undeclared source is now error 1 at spot 3".
         let stored = declared(t, reference.name, SOURCE)?;
         require(dst == stored, [2, SOURCE, FIRST, stored, dst])?;
     }
