@@ -7,3 +7,4 @@ pub mod Position
 pub mod Open
 pub mod Forward
 pub mod Back
+pub mod JournalLength

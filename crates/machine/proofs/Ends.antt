@@ -1,11 +1,13 @@
 -- A small logic of computations that can be refused: every refusal satisfies R, every result P. Without 18 among the refusals it is progress and
 -- preservation, with any refusal it is what holds of the results. Assumes nothing.
 use Prim.Native.Nat.{ℕ}
-use mathlib.Core.Bool.{Bool, true, false, cond}
-use mathlib.Core.Path.{_≡_, refl}
+use mathlib.Core.Bool.{Bool, true, false, cond, false≢true}
+use mathlib.Core.List.{List, [], _∷_}
+use mathlib.Core.Path.{_≡_, refl, sym, _∙_}
 use native.Mathlib.Omega.{arith}
-use Rattle.tables.specs.Refusal.{noRule}
+use Rattle.tables.specs.Refusal.{journalFull, noRule}
 use Rattle.tables.specs.Outcome.{Outcome, ok, refuse, _>>=_, _>>_, need}
+use Rattle.tables.proofs.Cases.{among}
 
 pub data Ends (R : ℕ → Type 0) {A : Type 0} (P : A → Type 0) : Outcome A → Type 0 where
   fine : {a : A} → P a → Ends R P (ok a)
@@ -13,8 +15,12 @@ pub data Ends (R : ℕ → Type 0) {A : Type 0} (P : A → Type 0) : Outcome A �
 
 -- ---- the refusals that may be met
 
+-- 18, which no typed row meets, and 13, which is the session's
+abbrev pub unmet : List ℕ
+unmet = noRule ∷ journalFull ∷ []
+
 abbrev pub Ruled : ℕ → Type 0
-Ruled n = n ≡ noRule → ⊥
+Ruled n = among n unmet ≡ false
 
 abbrev pub Any : ℕ → Type 0
 Any n = Unit {0}
@@ -57,9 +63,8 @@ module _ {R : ℕ → Type 0} where
   refuses n (fine p) e = let z : _≡_ {A = ℕ} 0 1 = cc in absurd (omega arith)
   refuses n (turned {n = m} r) e = let q : m ≡ n = cc in rw (← q) r
 
--- "no call meets an operand without a rule"
-pub no-18 : {A : Type 0} {P : A → Type 0} {s : Outcome A} → Ends Ruled P s → s ≡ refuse noRule → ⊥
-no-18 h e = refuses noRule h e refl
+pub never-met : {A : Type 0} {P : A → Type 0} {s : Outcome A} (n : ℕ) → among n unmet ≡ true → Ends Ruled P s → s ≡ refuse n → ⊥
+never-met n m h e = false≢true (sym (refuses n h e) ∙ m)
 
 -- any computation, where nothing is asked
 pub any : {A : Type 0} (s : Outcome A) → Ends Any (λ a. Unit {0}) s

@@ -8,6 +8,7 @@ use mathlib.Core.Path.{_≡_, refl, sym, ap, ap₂, _∙_}
 use native.Mathlib.Numerals.{add-one}
 use native.Mathlib.Omega.{arith}
 use lib.ListN.{length, take, drop}
+use Rattle.tables.specs.Refusal.{noRule}
 use Rattle.tables.specs.Outcome.{Outcome, ok, refuse, _>>=_, _>>_, need}
 use Rattle.tables.specs.Rows.{instructionAt}
 use Rattle.tables.specs.declared.rows.Instruction.{Instruction}
@@ -26,11 +27,11 @@ use Rattle.session_forward.specs.Forward as session
 use Rattle.session_forward.specs.Forward.{forwardLook, Left, left, forwardTables}
 use Rattle.session.specs.declared.answer.StepAnswer.the-variants.{Moved, Refused}
 use Rattle.soundness.specs.Sound.{GoodWrite}
-use Rattle.sequence.specs.Calls.{ofStep}
+use Rattle.sequence.specs.Calls.{ofStep, numberOf}
 use Rattle.sequence.specs.Replay.{Machine, State, made, cellsAfter, writesAfter, usedAfter, rowAt, cellsAt, usedAt, positionAt, replayLook, replayed, stepAnswer, nextState}
 use Rattle.sequence.specs.Journal.{journalAfter, journalAt}
-use Rattle.sequence.specs.Claim.{Ruled, Spared}
-use Rattle.sequence.proofs.Looks.{Steps, steps, unruled, same-look}
+use Rattle.sequence.specs.Claim.{Spared}
+use Rattle.sequence.proofs.Looks.{Steps, steps, row-refused, same-look}
 use Rattle.sequence.proofs.Reached.{length-journal, journal-parted, count, rows, Started, Within, typed-after, good-after, cells-taken, past-left, held-among, spent, prepared-at, position-fits}
 
 -- "its reply joins the history"
@@ -117,18 +118,23 @@ module _ {M : Machine} {past : List ℕ} (started : Started M past) where
   unfolding forwardTables
   forward-leaves s rest reply w = ap (leavesAt s rest) (forward-look s rest reply w)
 
-  -- ---- "No call in it met an operand without a rule"
+  -- ---- a number that its looks do not give is not its answer
 
-  ruled-by : (s : State) (reply : List ℕ) → length (s .history) ≤ rows M → (o : Outcome (List Write)) → replayLook M s reply ≡ o
-      → Ruled (ofStep (stepAnswer M s (joins s reply o)))
+  unmet-by : (k : ℕ) → (0 ≡ k → ⊥) → (s : State) (reply : List ℕ) → (replayLook M s reply ≡ refuse k → ⊥) → (o : Outcome (List Write)) → replayLook M s reply ≡ o
+      → numberOf (ofStep (stepAnswer M s (joins s reply o))) ≡ k → ⊥
   unfolding _>>=_
-  ruled-by s reply l (ok ws) e = omega arith
-  ruled-by s reply l (refuse n) e = λ z.
-      let u = unruled M (started .prepared) s reply (e ∙ ap refuse z) in
-      started .sound .ruled (cellsAt M s) (rowAt M s) reply (typed-after started (s .history) l) (u .row) (u .outcome-is)
+  unmet-by k some s reply never (ok ws) e = some
+  unmet-by k some s reply never (refuse n) e = λ z. never (e ∙ ap refuse z)
 
-  pub forward-ruled : (s : State) (reply : List ℕ) → length (s .history) ≤ rows M → Ruled (ofStep (stepAnswer M s (joins s reply (replayLook M s reply))))
-  forward-ruled s reply l = ruled-by s reply l (replayLook M s reply) refl
+  pub forward-unmet : (k : ℕ) → (0 ≡ k → ⊥) → (s : State) (reply : List ℕ) → (replayLook M s reply ≡ refuse k → ⊥)
+      → numberOf (ofStep (stepAnswer M s (joins s reply (replayLook M s reply)))) ≡ k → ⊥
+  forward-unmet k some s reply never = unmet-by k some s reply never (replayLook M s reply) refl
+
+  -- "No call in it met an operand without a rule"
+  pub forward-ruled : (s : State) (reply : List ℕ) → length (s .history) ≤ rows M → replayLook M s reply ≡ refuse noRule → ⊥
+  forward-ruled s reply l e =
+      let r = row-refused M (started .prepared) s reply noRule (omega arith) (λ ws l o full. omega arith) e in
+      started .sound .ruled (cellsAt M s) (rowAt M s) reply (typed-after started (s .history) l) (r .row) (r .outcome-is)
 
   -- ---- "a CALL changed only cells of regions in its write set"
 

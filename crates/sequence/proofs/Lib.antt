@@ -5,4 +5,5 @@ pub mod Reached
 pub mod Forward
 pub mod Back
 pub mod Sequence
+pub mod JournalLength
 pub mod Top

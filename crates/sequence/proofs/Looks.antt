@@ -1,4 +1,4 @@
--- What the replay machine's looks have seen, by what they gave: the step's writes, or 18; and that they are the session's. Assumes nothing.
+-- What the replay machine's looks have seen, by what they gave: the step's writes, or a refusal of the row's; and that they are the session's. Assumes nothing.
 use Prim.Native.Nat.{ℕ, _+_, _-_, _<_, _≤_}
 use mathlib.Core.Bool.{Bool, true, false}
 use mathlib.Core.List.{List}
@@ -7,7 +7,7 @@ use native.Mathlib.Omega.{arith}
 use lib.Dec.{ltb, leb}
 use lib.ListN.{length}
 use borrow.Author.Tests.{ltb-true, leb-true, leb-false, le-leb, lt-leb}
-use Rattle.tables.specs.Refusal.{atEnd, journalFull, noRule}
+use Rattle.tables.specs.Refusal.{atEnd, journalFull}
 use Rattle.tables.specs.Outcome.{Outcome, ok, refuse, _>>=_, _>>_, need}
 use Rattle.tables.specs.Rows.{instructionRows}
 use Rattle.tables.proofs.Passed.{passed}
@@ -20,14 +20,14 @@ use Rattle.session_forward.specs.Forward.{stepLook}
 use Rattle.sequence.specs.Replay.{Machine, State, rowAt, cellsAt, usedAt, positionAt, looksFirst, replayLook}
 
 -- a refusal k of a look that is not refused with k itself
-pub passed-over : {B : Type 0} (b : Bool) (n k : ℕ) (s : Outcome B) → (n ≡ k → ⊥) → (need b n >> s) ≡ refuse k → (b ≡ true) × (s ≡ refuse k)
+passed-over : {B : Type 0} (b : Bool) (n k : ℕ) (s : Outcome B) → (n ≡ k → ⊥) → (need b n >> s) ≡ refuse k → (b ≡ true) × (s ≡ refuse k)
 unfolding _>>_ need
 passed-over true n k s ne e = (refl, e)
 passed-over false n k s ne e = absurd (ne (cc))
 
-bound-over : {A B : Type 0} (s : Outcome A) (f : A → Outcome B) (k : ℕ) → ((a : A) → f a ≡ refuse k → ⊥) → (s >>= f) ≡ refuse k → s ≡ refuse k
+bound-over : {A B : Type 0} (s : Outcome A) (f : A → Outcome B) (k : ℕ) → ((a : A) → s ≡ ok a → f a ≡ refuse k → ⊥) → (s >>= f) ≡ refuse k → s ≡ refuse k
 unfolding _>>=_
-bound-over (ok a) f k never e = absurd (never a e)
+bound-over (ok a) f k never e = absurd (never a refl e)
 bound-over (refuse n) f k never e = cc
 
 -- what comes after is the same
@@ -74,23 +74,25 @@ module _ (M : Machine) {n : ℕ} (prepared : looksFirst M ≡ ok n) (s : State) 
             (leb-true (usedAt M s + (length (b .value) + 1)) (entriesOf (M .journalWords)) fits);
       }
 
-  pub record Unruled : Type 0 where
+  pub record RowRefused (k : ℕ) : Type 0 where
     pub row : rowAt M s < instructionRows (M .tables .instructions)
-    pub outcome-is : outcome ≡ refuse noRule
+    pub outcome-is : outcome ≡ refuse k
 
-  -- 11 and 13 are no 18
-  room-ruled : (ws : List Write) → (need (room ws) journalFull >> ok ws) ≡ refuse noRule → ⊥
-  room-ruled ws e =
-      let (f, e₁) = passed-over (room ws) journalFull noRule (ok ws) (omega arith) e in
-      let z : _≡_ {A = ℕ} 0 1 = cc in omega arith
+  room-over : (k : ℕ) (ws : List Write) → (room ws ≡ false → journalFull ≡ k → ⊥) → (need (room ws) journalFull >> ok ws) ≡ refuse k → ⊥
+  unfolding _>>_ need
+  room-over k ws full e = at (room ws) refl e
+    where
+      at : (b : Bool) → room ws ≡ b → (need b journalFull >> ok ws) ≡ refuse k → ⊥
+      at true r e = let z : _≡_ {A = ℕ} 0 1 = cc in omega arith
+      at false r e = full r (cc)
 
-  pub unruled : replayLook M s reply ≡ refuse noRule → Unruled
-  unruled e =
-      let (here-is, e₁) = passed-over here atEnd noRule _ (omega arith) (sym look-is ∙ e) in
-      record {
-        row = ltb-true (rowAt M s) (instructionRows (M .tables .instructions)) here-is;
-        outcome-is = bound-over outcome _ noRule room-ruled e₁;
-      }
+  -- a number that is not 11, nor 13 for want of room, is the row's
+  pub row-refused : (k : ℕ) → (atEnd ≡ k → ⊥) → ((ws : List Write) → rowAt M s < instructionRows (M .tables .instructions) → outcome ≡ ok ws → room ws ≡ false → journalFull ≡ k → ⊥)
+      → replayLook M s reply ≡ refuse k → RowRefused k
+  row-refused k ended full e =
+      let (here-is, e₁) = passed-over here atEnd k _ ended (sym look-is ∙ e) in
+      let l = ltb-true (rowAt M s) (instructionRows (M .tables .instructions)) here-is in
+      record { row = l; outcome-is = bound-over outcome _ k (λ ws o. room-over k ws (full ws l o)) e₁ }
 
   -- ---- they are the session's, whose 13 takes the used entries away first
 

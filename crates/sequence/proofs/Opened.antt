@@ -18,32 +18,35 @@ use Rattle.session.specs.Leaves.{withTail}
 use Rattle.session.specs.declared.answer.OpenAnswer.the-variants.{Opened}
 use Rattle.session.proofs.Prepared as session
 use Rattle.session.proofs.Prepared.{Facts}
-use Rattle.session_open.specs.Open.{OpenLook, accepted, refused, mistyped, unlessRefused, unlessError, programLook, programVerdict, tablesVerdict, openVerdict, openCells, openTables}
+use Rattle.session_open.specs.declared.verdict.OpenLook.{OpenLook}
+use Rattle.session_open.specs.declared.verdict.OpenLook.the-variants as L
+use Rattle.session_open.specs.Open.{unlessRefused, unlessError, programLook, programVerdict, tablesVerdict, openVerdict, openCells, openTables}
 
 -- 1, 2, 3, 10 and 4 look at the tables and at lengths, which no call changes: after open neither forward nor back is refused with these numbers
 pub record Accepts (t : Tables) (memory : List ℕ) (words : ℕ) : Type 0 where
   pub prepared : preparedOf t (length memory) words ≡ ok (cellCount (t .regions))
   pub facts : Facts t (length memory) words (cellCount (t .regions))
+  pub verdict : tablesVerdict t ≡ L.Accepted
   pub checked : checkOf (t .regions) (t .nodes) (t .instructions) ≡ T.Accepted
   pub zeroed : openTables t memory words .memory ≡ zeros (t .regions) ++ drop (cellWidth * cellCount (t .regions)) memory
 
 -- only an accepted program is opened
-opens : (regions cells : List ℕ) (v : OpenLook) → openCells regions cells v .answer ≡ Opened firstPosition → v ≡ accepted
+opens : (regions cells : List ℕ) (v : OpenLook) → openCells regions cells v .answer ≡ Opened firstPosition → v ≡ L.Accepted
 unfolding openCells
-opens regions cells accepted e = refl
-opens regions cells (refused n) e = let z : _≡_ {A = ℕ} 0 1 = cc in absurd (omega arith)
-opens regions cells (mistyped x) e = let z : _≡_ {A = ℕ} 0 1 = cc in absurd (omega arith)
+opens regions cells L.Accepted e = refl
+opens regions cells (L.Refused n) e = let z : _≡_ {A = ℕ} 0 1 = cc in absurd (omega arith)
+opens regions cells (L.Error x) e = let z : _≡_ {A = ℕ} 0 1 = cc in absurd (omega arith)
 
 record Unrefused {A : Type 0} (s : Outcome A) (rest : OpenLook) : Type 0 where
   value : A
   given : s ≡ ok value
-  rest-is : rest ≡ accepted
+  rest-is : rest ≡ L.Accepted
 
-unrefused : {A : Type 0} (s : Outcome A) (rest : OpenLook) → unlessRefused s rest ≡ accepted → Unrefused s rest
+unrefused : {A : Type 0} (s : Outcome A) (rest : OpenLook) → unlessRefused s rest ≡ L.Accepted → Unrefused s rest
 unrefused (ok a) rest e = record { value = a; given = refl; rest-is = e }
 unrefused (refuse n) rest e = let z : _≡_ {A = ℕ} 0 1 = cc in absurd (omega arith)
 
-unfaulted : (v : Verdict) (rest : OpenLook) → unlessError v rest ≡ accepted → v ≡ T.Accepted
+unfaulted : (v : Verdict) (rest : OpenLook) → unlessError v rest ≡ L.Accepted → v ≡ T.Accepted
 unfaulted T.Accepted rest e = refl
 unfaulted (T.Error x) rest e = let z : _≡_ {A = ℕ} 0 1 = cc in absurd (omega arith)
 
@@ -58,6 +61,7 @@ accepts t memory words e =
     record {
       prepared = given;
       facts = session.prepared t (length memory) words given;
-      checked = unfaulted (checkOf (t .regions) (t .nodes) (t .instructions)) (unlessRefused (programLook t) accepted) (q .rest-is);
+      verdict = p .rest-is;
+      checked = unfaulted (checkOf (t .regions) (t .nodes) (t .instructions)) (unlessRefused (programLook t) L.Accepted) (q .rest-is);
       zeroed = ap (λ (v : OpenLook). openCells (t .regions) (take w memory) v .memory ++ drop w memory) verdict;
     }

@@ -6,6 +6,7 @@ use mathlib.Core.Path.{_≡_, refl, sym, ap, ap₂, _∙_, subst}
 use native.Mathlib.Omega.{arith}
 use lib.ListN.{length, take, drop, length-drop}
 use lib.Seq.{take-at}
+use Rattle.tables.specs.Refusal.{nothingToTakeBack, noRule}
 use Rattle.tables.specs.Outcome.{Outcome, ok, refuse, _>>=_}
 use Rattle.tables.specs.Tables.{Tables}
 use Rattle.tables.specs.Cells.{cellCount}
@@ -18,13 +19,13 @@ use Rattle.session_forward.specs.Forward.{Left}
 use Rattle.session_back.specs.Back.{Back}
 use Rattle.operands.specs.Typed.{Typed}
 use Rattle.soundness.specs.Sound.{Sound}
-use Rattle.sequence.specs.Calls.{Call, forward, back, Answer, ofStep, positionOf, Session, opened, Called, called, after, next, answers, end}
-use Rattle.sequence.specs.Replay.{Machine, machineOf, History, State, fresh, cellsAfter, writesAfter, usedAfter, cellsAt, usedAt, positionAt, replayed, stepAnswer, nextState, replayAnswer, replayNext, replayAnswers, replayEnd}
+use Rattle.sequence.specs.Calls.{Call, forward, back, Answer, ofStep, numberOf, positionOf, Session, opened, Called, called, after, next, answers, end}
+use Rattle.sequence.specs.Replay.{Machine, machineOf, History, State, fresh, cellsAfter, writesAfter, usedAfter, cellsAt, usedAt, positionAt, replayLook, replayed, stepAnswer, nextState, replayAnswer, replayNext, replayAnswers, replayEnd}
 use Rattle.sequence.specs.Journal.{stacked, stepsAfter, journalAfter, journalAt, usedEntries}
 use Rattle.sequence.specs.Claim.{Ruled, Framed, Faithful}
 use Rattle.sequence.proofs.Opened.{Accepts}
 use Rattle.sequence.proofs.Reached.{length-journal, journal-parted, rows, Started, sessionAt, Within, typed-after, cells-taken}
-use Rattle.sequence.proofs.Forward.{forwarded, forward-leaves, forward-ruled, forward-kept}
+use Rattle.sequence.proofs.Forward.{forwarded, forward-leaves, forward-unmet, forward-ruled, forward-kept}
 use Rattle.sequence.proofs.Back.{none-dropped, back-none, last-dropped, back-last, back-within}
 
 module _ {M : Machine} {past : List ℕ} (started : Started M past) where
@@ -74,15 +75,6 @@ module _ {M : Machine} {past : List ℕ} (started : Started M past) where
       ap after (f .called-is)
       ∙ (λ i. record { memory = cellsAt M s′ ++ past; journal = journalAt M s′ ++ f .rest′; position = position-next s (replayed M c s) i })
 
-  ruled-back : (h : History) → Ruled (replayAnswer M back (record { history = h }))
-  ruled-back [] = rw (none-dropped started) (omega arith)
-  ruled-back (reply ∷ h) = rw (last-dropped started reply h) (omega arith)
-
-  ruled : (c : Call) (s : State) → length (s .history) ≤ rows M → Ruled (replayAnswer M c s)
-  unfolding replayed
-  ruled (forward reply) s l = forward-ruled started s reply l
-  ruled back s l = ruled-back (s .history)
-
   framed-first : (c : Call) (cs : List Call) (s : State) (rest : List ℕ) → Follows c s rest (replayed M c s)
       → Framed (M .tables) cs (next (M .tables) c (sessionAt M past s rest)) → Framed (M .tables) (c ∷ cs) (sessionAt M past s rest)
   unfolding replayed
@@ -97,12 +89,11 @@ module _ {M : Machine} {past : List ℕ} (started : Started M past) where
     pub rest′ : List ℕ
     pub end-is : end (M .tables) cs (sessionAt M past s rest) ≡ sessionAt M past (replayEnd M cs s) rest′
     pub within : Within M (replayEnd M cs s) rest′
-    pub all-ruled : Each Ruled (replayAnswers M cs s)
     pub all-framed : Framed (M .tables) cs (sessionAt M past s rest)
 
   pub agrees : (cs : List Call) (s : State) (rest : List ℕ) → Within M s rest → Agrees cs s rest
   unfolding answers end replayAnswers replayEnd
-  agrees [] s rest w = record { answers-are = refl; rest′ = rest; end-is = refl; within = w; all-ruled = none; all-framed = tt }
+  agrees [] s rest w = record { answers-are = refl; rest′ = rest; end-is = refl; within = w; all-framed = tt }
   agrees (c ∷ cs) s rest w =
       let f = follows c s rest w in
       let a = agrees cs (replayNext M c s) (f .rest′) (f .within) in
@@ -111,9 +102,26 @@ module _ {M : Machine} {past : List ℕ} (started : Started M past) where
         rest′ = a .rest′;
         end-is = ap (end (M .tables) cs) (reaches c s rest f) ∙ a .end-is;
         within = a .within;
-        all-ruled = also (ruled c s (w .steps)) (a .all-ruled);
         all-framed = framed-first c cs s rest f (subst (Framed (M .tables) cs) (sym (reaches c s rest f)) (a .all-framed));
       }
+
+  -- ---- a number that is neither 0 nor 12 and that no forward's looks give is no answer of a list
+
+  module _ (k : ℕ) (some : 0 ≡ k → ⊥) (last : nothingToTakeBack ≡ k → ⊥)
+      (never : (s : State) (reply : List ℕ) → length (s .history) ≤ rows M → replayLook M s reply ≡ refuse k → ⊥) where
+    unmet-back : (h : History) → numberOf (replayAnswer M back (record { history = h })) ≡ k → ⊥
+    unmet-back [] = rw (none-dropped started) last
+    unmet-back (reply ∷ h) = rw (last-dropped started reply h) some
+
+    unmet : (c : Call) (s : State) → length (s .history) ≤ rows M → numberOf (replayAnswer M c s) ≡ k → ⊥
+    unfolding replayed
+    unmet (forward reply) s l = forward-unmet started k some s reply (never s reply l)
+    unmet back s l = unmet-back (s .history)
+
+    pub none-answers : (cs : List Call) (s : State) (rest : List ℕ) → Within M s rest → Each (λ a. numberOf a ≡ k → ⊥) (replayAnswers M cs s)
+    unfolding replayAnswers
+    none-answers [] s rest w = none
+    none-answers (c ∷ cs) s rest w = let f = follows c s rest w in also (unmet c s (w .steps)) (none-answers cs (replayNext M c s) (f .rest′) (f .within))
 
   -- what is laid out at a state: cells of the declared kinds, and the entries of its steps
   pub typed-at : (s : State) (rest : List ℕ) → Within M s rest → Typed (M .tables .regions) (take (2 * cellCount (M .tables .regions)) (sessionAt M past s rest .memory))
@@ -125,13 +133,13 @@ module _ {M : Machine} {past : List ℕ} (started : Started M past) where
 -- ---- after an accepted open
 
 module _ (t : Tables) (sound : Sound t) (memory journal : List ℕ) (a : Accepts t memory (length journal)) where
-  abbrev machine : Machine
+  abbrev pub machine : Machine
   machine = machineOf t (length memory) (length journal)
 
-  abbrev past : List ℕ
+  abbrev pub past : List ℕ
   past = drop (2 * cellCount (t .regions)) memory
 
-  started : Started machine past
+  pub started : Started machine past
   started = record {
     sound = sound;
     typed = sound .starts;
@@ -143,21 +151,32 @@ module _ (t : Tables) (sound : Sound t) (memory journal : List ℕ) (a : Accepts
   unfolding cellsAfter usedAfter stacked stepsAfter
   opened-is = λ i. record { memory = a .zeroed i; journal = journal; position = firstPosition }
 
-  begins : Within machine fresh journal
+  pub begins : Within machine fresh journal
   unfolding stacked stepsAfter
   begins = record { steps = omega arith; size = refl }
 
-  pub faithful : (calls : List Call) → Faithful t memory journal calls
-  faithful calls =
-      let g = agrees started calls fresh journal begins in
-      let same = ap (answers t calls) opened-is ∙ g .answers-are in
-      let ended = ap (end t calls) opened-is ∙ g .end-is in
-      let s : State = replayEnd machine calls fresh in
-      record {
-        kinds = subst (λ (z : Session). Typed (t .regions) (take (2 * cellCount (t .regions)) (z .memory))) (sym ended) (typed-at started s (g .rest′) (g .within));
-        ruled = subst (Each Ruled) (sym same) (g .all-ruled);
-        framed = subst (Framed t calls) (sym opened-is) (g .all-framed);
-        answers-are = same;
-        memory-is = ap (λ (z : Session). z .memory) ended;
-        journal-is = ap usedEntries ended ∙ entries-at started s (g .rest′);
-      }
+  module _ (calls : List Call) where
+    abbrev pub state : State
+    state = replayEnd machine calls fresh
+
+    pub agreed : Agrees started calls fresh journal
+    agreed = agrees started calls fresh journal begins
+
+    pub same : answers t calls (opened t memory journal) ≡ replayAnswers machine calls fresh
+    same = ap (answers t calls) opened-is ∙ agreed .answers-are
+
+    pub ended : end t calls (opened t memory journal) ≡ sessionAt machine past state (agreed .rest′)
+    ended = ap (end t calls) opened-is ∙ agreed .end-is
+
+    pub within : Within machine state (agreed .rest′)
+    within = agreed .within
+
+    pub faithful : Faithful t memory journal calls
+    faithful = record {
+      kinds = subst (λ (z : Session). Typed (t .regions) (take (2 * cellCount (t .regions)) (z .memory))) (sym ended) (typed-at started state (agreed .rest′) within);
+      ruled = subst (Each Ruled) (sym same) (none-answers started noRule (omega arith) (omega arith) (forward-ruled started) calls fresh journal begins);
+      framed = subst (Framed t calls) (sym opened-is) (agreed .all-framed);
+      answers-are = same;
+      memory-is = ap (λ (z : Session). z .memory) ended;
+      journal-is = ap usedEntries ended ∙ entries-at started state (agreed .rest′);
+    }

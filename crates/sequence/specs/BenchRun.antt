@@ -24,6 +24,7 @@ use Rattle.word_rules.specs.Instruction.{operatorsOf, formAllowed, sourceAllowe
 use Rattle.tables.specs.Tree.{arityOf, treesFrom, inside, oneTree}
 use Rattle.tables.specs.Lookup.{lookupOf, lookupAmong, distinct}
 use Rattle.loader.specs.Load.{loadLook, allowedTables, distinctNames}
+use Rattle.tables.specs.Sum.{sumTo}
 use Rattle.tables.specs.Cells.{firstCell, cellCount, cellsOf}
 use Rattle.type_rules.specs.Rule.{arithmeticRule, sourceRule, logicSource, logicRule, moveRule, exchangeRule, loadOffset, loadRule, storeSource, storeRule, ruleOf}
 use Rattle.type_rules.specs.Codes.{kindCode, codeOf, operandCode, sourceCode, rowRule}
@@ -110,7 +111,7 @@ unfolding fitsKind widthOf lowBits signed wordOf integerIsNegative integerDivide
     realAboveEpsilon size ofBits lt caseOf
     _>>=_ _>>_ need first every loadLook wholeTables wholeRows allowedTables regionsAllowed regionAllowed externsAllowed parametersAllowed nodesAllowed
     nodeAllowed argumentsAllowed instructionsAllowed instructionAllowed operatorsOf formAllowed sourceAllowed operandsAllowed oneTree inside treesFrom
-    arityOf distinctNames distinct lookupOf lookupAmong cellsOf cellCount firstCell
+    arityOf distinctNames distinct lookupOf lookupAmong cellsOf cellCount firstCell sumTo
     checkOf verdictOf judgementOf rowRule ruleOf sourceCode operandCode codeOf kindCode arithmeticRule sourceRule logicRule logicSource moveRule
     exchangeRule loadRule loadOffset storeRule storeSource frameRule treeVerdict nodeVerdict numberVerdict
     put applied flatten olds log closing entered journaled entriesAt restored undone present

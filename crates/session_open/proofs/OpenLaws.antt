@@ -14,7 +14,8 @@ use Rattle.session.specs.declared.answer.OpenAnswer.{OpenAnswer}
 use Rattle.session.specs.declared.answer.OpenAnswer.the-variants.{Refused}
 use Rattle.session.proofs.Prepared.{prepared, tables-looked}
 use Rattle.session.proofs.LeavesLaws.{tail-kept, all-kept}
-use Rattle.session_open.specs.Open.{CallsInside, OpenLook, refused, unlessRefused, programVerdict, tablesVerdict, openVerdict, opening, openCells, Openable, openTables}
+use Rattle.session_open.specs.declared.verdict.OpenLook.the-variants as L
+use Rattle.session_open.specs.Open.{CallsInside, unlessRefused, programVerdict, tablesVerdict, openVerdict, opening, openCells, Openable, openTables}
 
 -- every CALL's ranges lie in their tables
 pub loaded-calls : {t : Tables} → Loaded t → CallsInside (t .externs) (t .parameters) (t .arguments) (t .instructions)
@@ -29,7 +30,7 @@ module _ (t : Tables) (memory : List ℕ) (journal : ℕ) where
   -- 1, 2, 3, 10 or 4
   pub open-unprepared : {number : ℕ} → preparedOf t (length memory) journal ≡ refuse number → opening (Refused number) memory ≡ openTables t memory journal
   unfolding openTables openVerdict openCells
-  open-unprepared {number} e = rw e (all-kept (cellWidth * cellCount (t .regions)) memory (λ cells. openCells (t .regions) cells (refused number)) refl)
+  open-unprepared {number} e = rw e (all-kept (cellWidth * cellCount (t .regions)) memory (λ cells. openCells (t .regions) cells (L.Refused number)) refl)
 
   -- behind them, with n cells
   pub open-on : {n : ℕ} → preparedOf t (length memory) journal ≡ ok n → {a : OpenAnswer} {cells : List ℕ}

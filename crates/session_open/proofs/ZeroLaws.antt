@@ -7,6 +7,7 @@ use native.Mathlib.Decide.{ℕ-discrete}
 use lib.ListN.{length, getD}
 use lib.Seq.{ext-getD}
 use Rattle.tables.specs.Rows.{regionRows, regionKind}
+use Rattle.tables.specs.Sum.{sumTo}
 use Rattle.tables.specs.Cells.{cellsIn, firstCell, cellCount}
 use Rattle.journal.specs.Cells.{cellWidth, held, put}
 use Rattle.journal.specs.declared.cells.Write.{Write}
@@ -17,7 +18,7 @@ use Rattle.session_open.specs.Zero.{zeroCell, Zeroed, ZeroedTo}
 
 module _ (regions : List ℕ) where
   pub zeroed-none : (cells : List ℕ) → ZeroedTo regions cells 0 0
-  unfolding firstCell
+  unfolding firstCell sumTo
   zeroed-none cells = record { first = refl; zeroed = λ k h. absurd (omega arith) }
 
   -- cell c of region r is written

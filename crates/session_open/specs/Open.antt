@@ -13,7 +13,6 @@ use Rattle.tables.specs.Rows.{instructionRows, instructionAt}
 use Rattle.loader.specs.Load.{loadLook}
 use Rattle.tables.specs.Cells.{cellCount}
 use Rattle.type_check.specs.Check.{checkOf}
-use Rattle.type_rules.specs.declared.error.TypeError.{TypeError}
 use Rattle.type_rules.specs.declared.error.Verdict.{Verdict}
 use Rattle.type_rules.specs.declared.error.Verdict.the-variants as T
 use Rattle.extern_call.specs.Call.{CallRanges, resolvesCall}
@@ -26,6 +25,8 @@ use Rattle.session.specs.Prepare.{tablesLook, preparedOf}
 use Rattle.session.specs.Leaves.{Leaves, leaves, withTail}
 use Rattle.session.specs.declared.answer.OpenAnswer.{OpenAnswer}
 use Rattle.session.specs.declared.answer.OpenAnswer.the-variants.{Opened, Refused, Error}
+use Rattle.session_open.specs.declared.verdict.OpenLook.{OpenLook}
+use Rattle.session_open.specs.declared.verdict.OpenLook.the-variants as L
 
 -- ---- the looks at the rows
 
@@ -65,27 +66,21 @@ callTables regions externs parameters arguments instructions = tablesOf regions 
 
 -- ---- the verdict
 
--- nothing against the program, a refusal by its number, or 5 with the type error
-pub data OpenLook : Type 0 where
-  accepted : OpenLook
-  refused : ℕ → OpenLook
-  mistyped : TypeError → OpenLook
-
 -- the first look that turns the program down is the verdict
 abbrev pub unlessRefused : {A : Type 0} → Outcome A → OpenLook → OpenLook
 unlessRefused (ok a) rest = rest
-unlessRefused (refuse number) rest = refused number
+unlessRefused (refuse number) rest = L.Refused number
 
 abbrev pub unlessError : Verdict → OpenLook → OpenLook
 unlessError T.Accepted rest = rest
-unlessError (T.Error e) rest = mistyped e
+unlessError (T.Error e) rest = L.Error e
 
 -- "5, 9, then 6, 7, 8 by row"
 unfoldable pub programVerdict : Tables → OpenLook
 programVerdict t =
     unlessError (checkOf (t .regions) (t .nodes) (t .instructions))
     (unlessRefused (programLook t)
-    accepted)
+    L.Accepted)
 
 -- "1, 2, 3, 10 .. 5, 9, then 6, 7, 8 by row": open's looks without the buffers
 unfoldable pub tablesVerdict : Tables → OpenLook
@@ -105,9 +100,9 @@ opening answer memory = leaves answer memory tt
 
 -- on the cells of the regions: "Open zeroes each cell with its declared kind .. and gives position 0, 0"; "A refusal .. writes nothing"
 unfoldable pub openCells : List ℕ → List ℕ → OpenLook → Opening
-openCells regions cells accepted = opening (Opened firstPosition) (zeros regions)
-openCells regions cells (refused number) = opening (Refused number) cells
-openCells regions cells (mistyped e) = opening (Error e) cells
+openCells regions cells L.Accepted = opening (Opened firstPosition) (zeros regions)
+openCells regions cells (L.Refused number) = opening (Refused number) cells
+openCells regions cells (L.Error e) = opening (Error e) cells
 
 -- What the function behind it asks for: the tables are loaded, and the cells are those of their regions.
 pub record Openable (t : Tables) (cells : List ℕ) : Type 0 where

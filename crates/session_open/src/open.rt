@@ -2,13 +2,11 @@
 ghost use mathlib.Core.Path.{_≡_};
 ghost use Rattle.tables.specs.Tables.{tablesOf};
 ghost use Rattle.session_open.specs.Open.{opening, programVerdict, openCells, Openable};
-use crate::program::program_look;
+use crate::verdict::OpenLook;
+use crate::verdict::program_verdict;
 use crate::zero::zero_cells;
 use journal::position::Position;
 use session::answer::OpenAnswer;
-use tables::look::Look;
-use type_check::program::check_program;
-use type_rules::error::Verdict;
 
 pub fn open_cells(
     regions: &[u64],
@@ -22,14 +20,13 @@ pub fn open_cells(
     requires { ⌜ Openable (tablesOf (now regions) (now externs) (now parameters) (now nodes) (now arguments) (now instructions)) (now cells) ⌝ }
     ensures { λ r. ⌜ opening r (now (cells .exit)) ≡ openCells (now (regions .entry)) (now (cells .entry)) (programVerdict (tablesOf (now (regions .entry)) (now (externs .entry)) (now (parameters .entry)) (now (nodes .entry)) (now (arguments .entry)) (now (instructions .entry)))) ⌝ }
 {
-    let verdict = check_program(regions, nodes, instructions);
-    if let Verdict::Error(error) = verdict {
-        return OpenAnswer::Error(error);
+    let verdict = program_verdict(regions, externs, parameters, nodes, arguments, instructions);
+    match verdict {
+        OpenLook::Refused(number) => OpenAnswer::Refused(number),
+        OpenLook::Error(error) => OpenAnswer::Error(error),
+        OpenLook::Accepted => {
+            zero_cells(regions, cells);
+            OpenAnswer::Opened(Position::first())
+        }
     }
-    let look = program_look(regions, externs, parameters, arguments, instructions);
-    if let Look::Refused(number) = look {
-        return OpenAnswer::Refused(number);
-    }
-    zero_cells(regions, cells);
-    OpenAnswer::Opened(Position::first())
 }

@@ -1,7 +1,7 @@
--- A CALL is refused with 6, 7, 8, 14 or 17, so never with 18. Assumes nothing.
+-- A CALL is refused with 6, 7, 8, 14 or 17, so never with 18, nor with 13. Assumes nothing.
 use Prim.Native.Nat.{ℕ}
 use mathlib.Core.List.{List}
-use native.Mathlib.Omega.{arith}
+use mathlib.Core.Path.{refl}
 use Rattle.tables.specs.Refusal.{externNotFound, argumentCount, argumentErrors, indexPastLength, unfitReply}
 use Rattle.tables.specs.Lookup.{lookupExtern}
 use Rattle.tables.specs.declared.lookup.Found.{Found}
@@ -29,16 +29,16 @@ module _ (regions externs parameters arguments : List ℕ) (x : Instruction) whe
   resolves-ends : Ends Ruled (Whatever {A = ExternCall}) (resolvesCall regions externs parameters arguments x)
   unfolding resolvesCall
   resolves-ends =
-      bind (find-ends externs x (omega arith)) (λ call u. tested argumentCount (isCounted call) (omega arith) (λ c.
-      tested argumentErrors (allResolve regions parameters arguments call) (omega arith) (λ a. fine tt)))
+      bind (find-ends externs x refl) (λ call u. tested argumentCount (isCounted call) refl (λ c.
+      tested argumentErrors (allResolve regions parameters arguments call) refl (λ a. fine tt)))
 
   ready-ends : Ends Ruled (Whatever {A = ExternCall}) (M.callReady regions externs parameters arguments x)
   unfolding M.callReady
-  ready-ends = bind resolves-ends (λ call u. tested indexPastLength (M.scalarsFit regions parameters arguments call) (omega arith) (λ s. fine tt))
+  ready-ends = bind resolves-ends (λ call u. tested indexPastLength (M.scalarsFit regions parameters arguments call) refl (λ s. fine tt))
 
   judged-ends : (reply : List ℕ) → Ends Ruled (Whatever {A = ExternCall}) (M.callJudged regions externs parameters arguments x reply)
   unfolding M.callJudged
-  judged-ends reply = bind ready-ends (λ call u. tested unfitReply (M.replyFits regions parameters arguments call reply) (omega arith) (λ f. fine tt))
+  judged-ends reply = bind ready-ends (λ call u. tested unfitReply (M.replyFits regions parameters arguments call reply) refl (λ f. fine tt))
 
   pub call-ends : (reply : List ℕ) → Ends Ruled (Whatever {A = List Write}) (M.callOutcome regions externs parameters arguments x reply)
   unfolding M.callOutcome

@@ -1,11 +1,14 @@
--- How many changes a row makes, whatever the cells hold: by its family alone, or in a CALL by its reply. Assumes nothing.
+-- How many changes a row makes at most, whatever the cells hold: by its family alone. Assumes nothing.
 use Prim.Native.Nat.{ℕ, _%_, _≤_}
 use mathlib.Core.Bool.{Bool, true, false, not, cond}
-use mathlib.Core.List.{List}
+use mathlib.Core.List.{List, _∷_}
 use mathlib.Core.Path.{_≡_, ap, sym, _∙_}
+use native.Mathlib.Omega.{arith}
 use lib.Dec.{eqb}
 use lib.ListN.{length}
 use borrow.Author.Tests.{leb-true}
+use Rattle.tables.specs.Cases.{caseOf}
+use Rattle.tables.specs.Family as family
 use Rattle.tables.specs.Outcome.{ok}
 use Rattle.tables.specs.Tables.{Tables}
 use Rattle.tables.specs.declared.rows.Instruction.{Instruction}
@@ -16,11 +19,11 @@ use Rattle.machine.specs.Outcome.{isCall, isOther, plainOutcome, outcomeOf}
 use Rattle.operands.specs.Reach.{Laid}
 use Rattle.operands.proofs.Binds.{bound}
 use Rattle.call_reply.proofs.ReplyLaws.{judged-ok, reply-writes-length}
-use Rattle.machine.proofs.WritesLaws.{changesOf, writes-count}
+use Rattle.machine.proofs.WritesLaws.{changes, changesOf, writes-count}
 
--- "exchange 2 .., call one per reply row"
-abbrev pub changesIn : Instruction → List ℕ → ℕ
-changesIn x reply = cond (isCall x) (replyRows reply) (changesOf (x .family))
+-- "exchange 2 .., call one per reply row"; "a reply is up to 64 rows"
+unfoldable pub mostChanges : ℕ → ℕ
+mostChanges f = caseOf f ((family.call, replyLimit) ∷ changes) 0
 
 module _ (t : Tables) (x : Instruction) (reply : List ℕ) {ws : List Write} where
   -- "a reply is up to 64 rows"
@@ -35,11 +38,11 @@ module _ (t : Tables) (x : Instruction) (reply : List ℕ) {ws : List Write} whe
         leb-true (replyRows reply) replyLimit (both (eqb (length reply % replyWidth) 0) _ f .1),
       )
 
-  pub outcome-count : Laid (t .regions) → (cells : List ℕ) → outcomeOf t cells x reply ≡ ok ws → length ws ≡ changesIn x reply
-  unfolding outcomeOf
-  outcome-count laid cells e = at (isCall x) (passed (not (isOther x)) _ _ _ e .1)
+  pub outcome-most : Laid (t .regions) → (cells : List ℕ) → outcomeOf t cells x reply ≡ ok ws → length ws ≤ mostChanges (x .family)
+  unfolding outcomeOf mostChanges changesOf caseOf
+  outcome-most laid cells e = at (isCall x) (passed (not (isOther x)) _ _ _ e .1)
     where
       at : (c : Bool) → cond c (callOutcome (t .regions) (t .externs) (t .parameters) (t .arguments) x reply) (plainOutcome (t .regions) cells x reply) ≡ ok ws
-          → length ws ≡ cond c (replyRows reply) (changesOf (x .family))
-      at true e = call-count e .0
-      at false e = writes-count laid cells x reply e
+          → length ws ≤ cond c replyLimit (changesOf (x .family))
+      at true e = let (n, l) = call-count e in omega arith
+      at false e = let n : length ws ≡ changesOf (x .family) = writes-count laid cells x reply e in omega arith

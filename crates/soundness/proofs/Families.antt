@@ -2,8 +2,7 @@
 use Prim.Native.Nat.{ℕ, _^_, _<_}
 use mathlib.Core.Bool.{Bool, true}
 use mathlib.Core.List.{List}
-use mathlib.Core.Path.{_≡_, sym, _∙_}
-use native.Mathlib.Omega.{arith}
+use mathlib.Core.Path.{_≡_, refl, sym, _∙_}
 use borrow.Author.Tests.{eqb-true}
 use Rattle.words.specs.Kind.{widthOf, fitsKind}
 use Rattle.words.specs.Fits.{fits-of}
@@ -76,11 +75,11 @@ module _ {regions cells : List ℕ} (typed : Typed regions cells) (x : Instructi
   unfolding F.loadOf
   load-sound t g o (_, (_, (_, (integer, (same, _))))) =
       let q = eqb-true d e same in
-      bind (offset-ends typed (rw (eqb-true s 1 integer) at o)) (λ i u. bind (indexed-ends i g (omega arith)) (λ c r.
+      bind (offset-ends typed (rw (eqb-true s 1 integer) at o)) (λ i u. bind (indexed-ends i g refl) (λ c r.
       bind (read-ends typed r) (λ v h. fine (single (kept-below t {w = v .word} (h .kind-is ∙ sym q) (rw q (h .below)))))))
 
   pub store-sound : Region regions d (n .first) → Cell regions e (a .second) → Source → Trues (C.storeWants d e s) → Keeps regions (F.storeOf regions cells x n a)
   unfolding F.storeOf
   store-sound g o src (_, (_, (_, (integer, (kinds, _))))) =
       bind (offset-ends typed (rw (eqb-true e 1 integer) at o)) (λ i u. bind src (λ v k.
-      bind (indexed-ends i g (omega arith)) (λ c r. put-ends typed v r k kinds)))
+      bind (indexed-ends i g refl) (λ c r. put-ends typed v r k kinds)))

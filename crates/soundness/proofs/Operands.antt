@@ -3,7 +3,7 @@
 use Prim.Native.Nat.{ℕ, _<_}
 use mathlib.Core.Bool.{true}
 use mathlib.Core.List.{List}
-use mathlib.Core.Path.{_≡_}
+use mathlib.Core.Path.{_≡_, refl}
 use native.Mathlib.Omega.{arith}
 use lib.Dec.{eqb}
 use borrow.Author.Tests.{eqb-true}
@@ -53,9 +53,9 @@ module _ {regions : List ℕ} (x : Instruction) where
   unfolding addressesOf
   addresses-ends n h =
       let f = x .family in
-      bind (written-ends (indexesFirst f) (x .«first_index») (λ e. h .first (first-named f e)) (omega arith)) (λ i hi.
-      bind (written-ends (indexesSecond f) (x .«second_index») (λ e. h .second (second-named f e)) (omega arith)) (λ j hj.
-      bind (written-ends (namesSource (x .«source_form»)) (x .«source_second») (h .source) (omega arith)) (λ k hk.
+      bind (written-ends (indexesFirst f) (x .«first_index») (λ e. h .first (first-named f e)) refl) (λ i hi.
+      bind (written-ends (indexesSecond f) (x .«second_index») (λ e. h .second (second-named f e)) refl) (λ j hj.
+      bind (written-ends (namesSource (x .«source_form»)) (x .«source_second») (h .source) refl) (λ k hk.
       fine (record { named = h; first = hi; second = hj; source = hk }))))
 
 -- ---- the source, by its form

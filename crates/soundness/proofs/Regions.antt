@@ -8,6 +8,7 @@ use native.Mathlib.Omega.{arith}
 use lib.Dec.{ltb}
 use Rattle.tables.specs.Refusal.{indexPastLength}
 use Rattle.tables.specs.Rows.{regionRows, regionKind, regionLength}
+use Rattle.tables.specs.Sum.{sumTo}
 use Rattle.tables.specs.Cells.{firstCell, cellCount}
 use Rattle.tables.specs.Lookup.{lookupRegion}
 use Rattle.tables.specs.declared.lookup.Found.{Found}
@@ -40,7 +41,7 @@ module _ (regions : List ℕ) where
 
   -- a cell lies in a region of the table
   pub region-below : (c : ℕ) → c < cellCount regions → regionOf regions c < regionRows regions
-  unfolding regionOf cellCount firstCell
+  unfolding regionOf cellCount firstCell sumTo
   region-below c h = at (regionRows regions) h
     where
       at : (n : ℕ) → c < firstCell regions n → regionAmong regions n c < n

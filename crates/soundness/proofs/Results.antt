@@ -31,7 +31,7 @@ use Rattle.machine.proofs.Ends.{Ends, Ruled, fine, turned, either}
 
 quotient-ends : (a b : ℕ) (q : Quotient) → integerDivide a b ≡ q → Ends Ruled (λ w. w < 2 ^ 64) (quotientOutcome q)
 quotient-ends a b (Q.Word r) e = fine (W.integerDivide-below a b r e)
-quotient-ends a b Q.ZeroDivisor e = turned {n = zeroDivisor} (omega arith)
+quotient-ends a b Q.ZeroDivisor e = turned {n = zeroDivisor} refl
 
 integer-ends : (which a b : ℕ) → Ends Ruled (λ w. w < 2 ^ 64) (integerResult which a b)
 unfolding integerResult caseOf
@@ -81,7 +81,7 @@ comparison-below which kind a b = at (comparisonTest which kind a b)
 module _ (kind v s : ℕ) (f : fitsKind kind v ≡ true) where
   shifted-ends : (answer : Shifted) → ((r : ℕ) → answer ≡ S.Word r → fitsKind kind r ≡ true) → Ends Ruled (λ w. fitsKind kind w ≡ true) (shiftedOutcome answer)
   shifted-ends (S.Word r) h = fine (h r refl)
-  shifted-ends S.NegativeCount h = turned {n = negativeShiftCount} (omega arith)
+  shifted-ends S.NegativeCount h = turned {n = negativeShiftCount} refl
 
   pub logic-ends : (which : ℕ) → Ends Ruled (λ w. fitsKind kind w ≡ true) (logicResult which kind v s)
   unfolding logicResult caseOf fitsKind

@@ -3,7 +3,6 @@ use Prim.Native.Nat.{ℕ, _^_, _<_}
 use mathlib.Core.Bool.{true, false, false≢true}
 use mathlib.Core.List.{List, [], _∷_}
 use mathlib.Core.Path.{_≡_, refl, sym, ap, _∙_, subst}
-use native.Mathlib.Omega.{arith}
 use lib.ListN.{length}
 use lib.Dec.{eqb}
 use borrow.Author.Tests.{ltb-true}
@@ -205,5 +204,5 @@ module _ {regions cells : List ℕ} (typed : Typed regions cells) (x : Instructi
   unfolding plainOutcome
   plain-sound reply =
       let r = ready (x .family) refl rule in
-      tested unfitReply (eqb (length reply) 0) (omega arith) (λ l.
+      tested unfitReply (eqb (length reply) 0) refl (λ l.
       bind (names-ends x (k .fit) (r .0)) (λ n g. bind (addresses-ends x n g) (λ a p. r .1 n a p)))

@@ -6,13 +6,14 @@ use mathlib.Core.Path.{_≡_, refl}
 use native.Mathlib.Omega.{arith}
 use lib.Dec.{ltb}
 use borrow.Author.Tests.{ltb-true}
-use Rattle.tables.specs.Refusal.{noRule, otherInstruction}
+use Rattle.tables.specs.Refusal.{journalFull, noRule, otherInstruction}
 use Rattle.tables.specs.Outcome.{Outcome, ok, refuse}
 use Rattle.tables.specs.Tables.{Tables}
 use Rattle.tables.specs.Rows.{instructionRows, instructionAt}
 use Rattle.word_rules.specs.Instruction.{operatorsOf, formAllowed, instructionAllowed}
 use Rattle.tables.specs.declared.rows.Instruction.{Instruction}
 use Rattle.loader.proofs.Loaded.{Loaded, loaded, region-kind, instruction-allowed}
+use Rattle.tables.proofs.Cases.{among}
 use Rattle.tables.proofs.Passed.{both, passed}
 use Rattle.type_check.proofs.CheckLaws.{rule-passes}
 use Rattle.journal.specs.declared.cells.Write.{Write}
@@ -20,7 +21,7 @@ use Rattle.journal.specs.Each.{Each}
 use Rattle.journal.proofs.CellsLaws.{each-map}
 use Rattle.call_reply.specs.Call.{callOutcome}
 use Rattle.machine.specs.Outcome.{isCall, isOther, plainOutcome, outcomeOf, outcomeAt}
-use Rattle.machine.proofs.Ends.{Ends, Ruled, tested, weaken, gives, no-18}
+use Rattle.machine.proofs.Ends.{Ends, unmet, Ruled, tested, weaken, gives, never-met}
 use Rattle.operands.specs.Typed.{Typed}
 use Rattle.soundness.specs.Sound.{Checked, GoodWrite, Sound}
 use Rattle.soundness.proofs.Regions.{RegionsFit}
@@ -72,10 +73,10 @@ module _ (t : Tables) (checked : Checked t) where
     plain-ends : Keeps (t .regions) plain
     plain-ends = plain-sound typed x (accepted row h) reply
 
-    -- 9 is no 18
-    row-ruled : outcomeAt t cells row reply ≡ refuse noRule → ⊥
+    -- nor is 9 one of these
+    row-unmet : (n : ℕ) → among n unmet ≡ true → outcomeAt t cells row reply ≡ refuse n → ⊥
     unfolding outcomeAt outcomeOf
-    row-ruled e = no-18 (tested {R = Ruled} {Q = λ ws. Unit {0}} otherInstruction (not (isOther x)) (omega arith) (λ o. ends (isCall x))) e
+    row-unmet n m e = never-met n m (tested {R = Ruled} {Q = λ ws. Unit {0}} otherInstruction (not (isOther x)) refl (λ o. ends (isCall x))) e
       where
         ends : (c : Bool) → Ends Ruled (λ ws. Unit {0}) (cond c called plain)
         ends true = call-ends (t .regions) (t .externs) (t .parameters) (t .arguments) x reply
@@ -92,6 +93,7 @@ module _ (t : Tables) (checked : Checked t) where
   pub sound : Sound t
   sound = record {
     starts = zeros-typed (t .regions) fit;
-    ruled = λ cells row reply typed h. row-ruled cells typed row h reply;
+    ruled = λ cells row reply typed h. row-unmet cells typed row h reply noRule refl;
+    roomy = λ cells row reply typed h. row-unmet cells typed row h reply journalFull refl;
     good = λ cells row reply ws typed h. row-good cells typed row h reply ws;
   }

@@ -3,7 +3,7 @@ use Prim.Native.Nat.{ℕ, _^_, _<_}
 use mathlib.Core.List.{List}
 use mathlib.Core.Path.{_≡_}
 use lib.ListN.{getD}
-use Rattle.tables.specs.Refusal.{noRule}
+use Rattle.tables.specs.Refusal.{journalFull, noRule}
 use Rattle.tables.specs.Outcome.{Outcome, ok, refuse}
 use Rattle.tables.specs.Tables.{Tables}
 use Rattle.tables.specs.Rows.{instructionRows, instructionAt}
@@ -46,5 +46,8 @@ pub record Sound (t : Tables) : Type 0 where
   -- demand 3: "No call in it met an operand without a rule". 01: "To meet an operand without a rule is to be refused with 18."
   pub ruled : (cells : List ℕ) (row : ℕ) (reply : List ℕ) → Typed (t .regions) cells → row < instructionRows (t .instructions)
       → outcomeAt t cells row reply ≡ refuse noRule → ⊥
+  -- "13 journal full" is a look of the session, no row's own
+  pub roomy : (cells : List ℕ) (row : ℕ) (reply : List ℕ) → Typed (t .regions) cells → row < instructionRows (t .instructions)
+      → outcomeAt t cells row reply ≡ refuse journalFull → ⊥
   pub good : (cells : List ℕ) (row : ℕ) (reply : List ℕ) (ws : List journal.Write) → Typed (t .regions) cells → row < instructionRows (t .instructions)
       → outcomeAt t cells row reply ≡ ok ws → Each (GoodWrite t (instructionAt (t .instructions) row)) ws

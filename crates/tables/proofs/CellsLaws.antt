@@ -1,9 +1,8 @@
 -- Laws of the cells' layout: where regions lie, and the number of cells by what a sum from the first region on has reached. Assumes nothing.
-use Prim.Native.Nat.{ℕ, zero, suc, _+_, _-_, _<_, _≤_}
+use Prim.Native.Nat.{ℕ, _+_, _<_, _≤_}
 use mathlib.Core.Bool.{Bool, true, false}
 use mathlib.Core.List.{List}
-use mathlib.Core.Path.{_≡_, refl, ap, _∙_}
-use native.Mathlib.Numerals.{add-one}
+use mathlib.Core.Path.{_≡_, refl, ap}
 use native.Mathlib.Omega.{arith}
 use lib.Dec.{leb}
 use borrow.Author.Tests.{le-leb, lt-leb, leb-true}
@@ -11,27 +10,18 @@ use Rattle.tables.specs.Outcome.{Outcome, ok, refuse, _>>_, need}
 use Rattle.tables.specs.Rows.{regionRows, regionLength}
 use Rattle.tables.specs.Refusal.{tooManyCells}
 use Rattle.tables.specs.Cells.{cellLimit, cellsIn, firstCell, origin, cellCount, cellsOf}
+use Rattle.tables.proofs.SumLaws.{sum-next, sum-mono}
 
 module _ (regions : List ℕ) where
   -- a region starts where the one before ends
   pub first-cell-next : (r : ℕ) → firstCell regions (r + 1) ≡ firstCell regions r + cellsIn regions r
   unfolding firstCell
-  first-cell-next r = rw (add-one r)
-
-  first-cell-after : (r n : ℕ) → firstCell regions r ≤ firstCell regions (r + n)
-  first-cell-after r zero = let e : firstCell regions (r + 0) ≡ firstCell regions r = ap (firstCell regions) (omega arith) in omega arith
-  first-cell-after r (suc n) =
-      let h : firstCell regions r ≤ firstCell regions (r + n) = first-cell-after r n in
-      let e : firstCell regions (r + suc n) ≡ firstCell regions (r + n + 1) = ap (firstCell regions) (omega arith) in
-      let s : firstCell regions (r + n + 1) ≡ firstCell regions (r + n) + cellsIn regions (r + n) = first-cell-next (r + n) in
-      omega arith
+  first-cell-next r = sum-next (cellsIn regions) r
 
   -- a later region starts no earlier
   pub first-cell-mono : (r s : ℕ) → r ≤ s → firstCell regions r ≤ firstCell regions s
-  first-cell-mono r s h =
-      let k : firstCell regions r ≤ firstCell regions (r + (s - r)) = first-cell-after r (s - r) in
-      let e : firstCell regions (r + (s - r)) ≡ firstCell regions s = ap (firstCell regions) (omega arith) in
-      omega arith
+  unfolding firstCell
+  first-cell-mono = sum-mono (cellsIn regions)
 
   -- the cells of a region of the table lie among all cells
   pub first-cell-within : (r : ℕ) → r < regionRows regions → firstCell regions r + cellsIn regions r ≤ cellCount regions

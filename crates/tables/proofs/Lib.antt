@@ -2,6 +2,7 @@
 pub mod Index
 pub mod Cases
 pub mod FirstLaws
+pub mod SumLaws
 pub mod Passed
 pub mod TreeLaws
 pub mod EndsLaws

@@ -1,10 +1,11 @@
 -- "Regions lie in table order, at most 4,096 cells." 10: "over 4,096 cells".
-use Prim.Native.Nat.{ℕ, zero, suc, _+_}
+use Prim.Native.Nat.{ℕ}
 use mathlib.Core.List.{List}
 use lib.Dec.{leb}
 use Rattle.tables.specs.Refusal.{tooManyCells}
 use Rattle.tables.specs.Outcome.{Outcome, ok, refuse, _>>_, need}
 use Rattle.tables.specs.Rows.{regionRows, regionLength}
+use Rattle.tables.specs.Sum.{sumTo}
 use Rattle.tables.specs.declared.cells.Cells.{Cells}
 use Rattle.tables.specs.declared.cells.Cells.the-variants.{Count, TooMany}
 
@@ -18,8 +19,7 @@ cellsIn regions r = regionLength regions r
 
 -- "Regions lie in table order": the number of cells before region r
 unfoldable pub firstCell : List ℕ → ℕ → ℕ
-firstCell regions zero = 0
-firstCell regions (suc r) = firstCell regions r + cellsIn regions r
+firstCell regions r = sumTo (cellsIn regions) r
 
 -- the cell of its index 0, from which its addresses count
 abbrev pub origin : List ℕ → ℕ → ℕ

@@ -2,6 +2,7 @@ pub mod Refusal
 pub mod Outcome
 pub mod Look
 pub mod First
+pub mod Sum
 pub mod Cases
 pub mod Family
 pub mod Operator

@@ -2,6 +2,7 @@ use borrow.Author.Needs.{needs}
 use native.Mathlib.Omega.{arith}
 use mathlib.Core.Path.{_≡_, refl, ap, _∙_}
 use Prim.Native.Nat.{_≤_, _-_}
+use Rattle.tables.specs.Sum.{sumTo}
 use Rattle.tables.specs.Cells.{firstCell}
 use Rattle.tables.proofs.CellsLaws.{first-cell-next, first-cell-within}
 use Rattle.operands.proofs.address.region_origin.Statement.{statement}
@@ -14,7 +15,7 @@ abbrev μ-loop : tie.MeasureT-loop
 μ-loop regions r c₀ i₀ c i = r - i
 
 loop-holds : tie.Need-loop-holds Inv-loop μ-loop
-unfolding firstCell
+unfolding firstCell sumTo
 loop-holds c = (omega arith, refl)
 
 cells-in-requires : tie.Need-cells-in-requires Inv-loop μ-loop

@@ -2,6 +2,7 @@ use Prim.Native.Nat.{ℕ, _+_, _-_, _≤_, _<_}
 use mathlib.Core.Path.{_≡_, refl, sym, ap, _∙_}
 use native.Mathlib.Omega.{arith}
 use Rattle.tables.specs.Rows.{regionRows}
+use Rattle.tables.specs.Sum.{sumTo}
 use Rattle.tables.specs.Cells.{cellLimit, firstCell, cellCount}
 use Rattle.tables.proofs.CellsLaws.{first-cell-next, first-cell-mono, cells-over, cells-counted}
 use borrow.Author.Needs.{needs}
@@ -18,7 +19,7 @@ abbrev μ-loop : tie.MeasureT-loop
 μ-loop regions rows cells₀ i₀ cells i = regionRows regions - i
 
 loop-holds : tie.Need-loop-holds Inv-loop μ-loop
-unfolding firstCell
+unfolding firstCell sumTo
 loop-holds c = (omega arith, refl, omega arith)
 
 cells-in-requires : tie.Need-cells-in-requires Inv-loop μ-loop
