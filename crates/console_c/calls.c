@@ -1,5 +1,6 @@
 /* The calls on tables alone: a type error, a CALL's arguments and names, an expression's
- * references. A session is in example.c. Build and run from the repository's root:
+ * references, how long a journal to lend. A session is in example.c. Build and run from the
+ * repository's root:
  *   rt staticlib console_c
  *   cc -o target/calls crates/console_c/calls.c target/staticlib/libconsole_c.a && target/calls */
 #include "console.h"
@@ -39,9 +40,11 @@ static const uint64_t instructions[] = {
 enum { CALL_ROW = 0, CALL_ARGUMENTS = 2, NODES = 6 };
 
 #define LENGTH(x) (sizeof(x) / sizeof((x)[0]))
-#define TABLES                                                                                \
+/* the program of that many words of the instructions */
+#define TABLES_OF(words)                                                                      \
     regions, LENGTH(regions), externs, LENGTH(externs), parameters, LENGTH(parameters), nodes, \
-        LENGTH(nodes), arguments, LENGTH(arguments), instructions, LENGTH(instructions)
+        LENGTH(nodes), arguments, LENGTH(arguments), instructions, words
+#define TABLES TABLES_OF(LENGTH(instructions))
 
 static void print(const char *label, uint64_t number, const uint64_t *words, size_t count)
 {
@@ -106,6 +109,16 @@ static void reference(void)
     } while (found[0] == 1);
 }
 
+/* Of the CALL alone its entries, of both rows the ADD's type error. */
+static void journal_length(void)
+{
+    uint64_t entries[1] = {0}, error[CONSOLE_TYPE_ERROR_WIDTH] = {0};
+    uint64_t number = console_journal_length(TABLES_OF(CONSOLE_INSTRUCTION_WIDTH), entries, error);
+    print("journal_length", number, entries, LENGTH(entries));
+    number = console_journal_length(TABLES, entries, error);
+    print("journal_length", number, error, LENGTH(error));
+}
+
 int main(void)
 {
     check();
@@ -114,5 +127,6 @@ int main(void)
     references();
     references_by_two();
     reference();
+    journal_length();
     return 0;
 }

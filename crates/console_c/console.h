@@ -338,6 +338,15 @@ uint64_t console_references(const uint64_t *nodes, size_t nodes_length, uint64_t
                             uint64_t node_count, uint64_t place[1], uint64_t *rows,
                             size_t rows_length, uint64_t count[1]);
 
+/* How many journal entries are enough: 1, 2, 3, 10, 5, 9, then 6, 7, 8 by row, as console_open
+ * without its buffers. entries on 0: the sum over all rows, 1 for NOP and a frame, 3 for EXCHANGE,
+ * 65 for a CALL, 2 for any other. After an accepted console_open, where nothing else writes the
+ * session, no more entries are ever in use, and with a journal of at least so many no
+ * console_forward is 13. The sum may be above 2,048, the most that console_open takes: then 13 may
+ * come with some keys and replies. error on 5, as console_check. */
+uint64_t console_journal_length(CONSOLE_TABLES, uint64_t entries[1],
+                                uint64_t error[CONSOLE_TYPE_ERROR_WIDTH]);
+
 /* Zeroes the cells of all regions, each with its declared kind: 1, 2, 3, 10, 4, 5, 9, then 6, 7, 8
  * by row. memory takes two words a cell, kind and word; words past the cells stay. journal takes
  * three words an entry, at most 2,048 entries; none is read or written. position on 0: both words

@@ -7,8 +7,7 @@
 #include <inttypes.h>
 #include <stdio.h>
 
-/* Names are any numbers: n is a region, f an extern, x its parameter. */
-enum { N = 1, X = 5, F = 7 };
+enum { N = 1, X = 5, F = 7 }; /* names are any numbers: a region n, an extern f, its parameter x */
 
 static const uint64_t regions[] = {N, CONSOLE_KIND_INTEGER, 3}; /* DECLARE n INTEGER[3] */
 /* f returns an INTEGER and takes x, a mutable INTEGER: one parameter, from row 0 on */
@@ -23,8 +22,8 @@ static const uint64_t instructions[] = {
     CONSOLE_FAMILY_CALL, 0, F, 0, 2, 0, CONSOLE_SOURCE_NONE, 0, 0, /* 2 arguments, from row 0 on */
 };
 
-/* three cells; two journal entries for the MOVE, and two for the CALL with its reply */
-static uint64_t memory[CONSOLE_CELL_WIDTH * 3], journal[CONSOLE_ENTRY_WIDTH * 4];
+enum { CELLS = 3, ENTRIES = 67 }; /* journal entries: enough in every order of keys, see main */
+static uint64_t memory[CONSOLE_CELL_WIDTH * CELLS], journal[CONSOLE_ENTRY_WIDTH * ENTRIES];
 static uint64_t position[CONSOLE_POSITION];
 
 #define LENGTH(x) (sizeof(x) / sizeof((x)[0]))
@@ -45,8 +44,9 @@ static uint64_t show(const char *what, uint64_t number)
 
 int main(void)
 {
-    uint64_t error[CONSOLE_TYPE_ERROR_WIDTH];
+    uint64_t error[CONSOLE_TYPE_ERROR_WIDTH], entries[1];
     if (show("check", console_check(TABLES, error)) ||
+        console_journal_length(TABLES, entries, error) || entries[0] > ENTRIES ||
         show("open", console_open(TABLES, SESSION, error)))
         return 1;
     /* f's reply puts 9 into its argument 1, x; as an OCTET it does not fit, and nothing changes */
