@@ -1,8 +1,8 @@
 //! A student's session: MOVE n[0] 7, then CALL f n[0] n[1], forward twice and back once.
 //! Run from this folder: cargo run --offline --example step
 use mugwortlatch::{
-    check, resolve, sizes, Instruction, Kind, MemoryReference, Parameter, Program, Refusal, Region, Reply, Session,
-    Shape,
+    check, journal_length, resolve, sizes, Instruction, Kind, MemoryReference, Parameter, Program, Refusal, Region,
+    Reply, Session, Shape,
 };
 
 /// Names are numbers that you choose.
@@ -25,8 +25,10 @@ fn main() -> Result<(), Refusal> {
     let call = program.call(F, &[n(0).into(), n(1).into()]);
     check(&program.tables())?;
 
-    // These fit every program; shorter ones do where you know how many cells and steps it has.
-    let (mut memory, mut journal) = ([0; sizes::MEMORY_WORDS], [0; sizes::JOURNAL_WORDS]);
+    // This memory fits every program. The journal is enough for every order of keys, unless that takes more entries
+    // than the longest has.
+    let entries = journal_length(&program.tables())?.min(sizes::ENTRY_LIMIT);
+    let (mut memory, mut journal) = ([0; sizes::MEMORY_WORDS], vec![0; entries * sizes::ENTRY_WIDTH]);
     let mut session = Session::open(program.tables(), &mut memory, &mut journal)?;
     session.forward(&[])?;
     show("moved", &session);

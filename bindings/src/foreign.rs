@@ -33,6 +33,8 @@ console_calls! {
         counts: *mut u64
     );
 
+    fn console_journal_length(entries: *mut u64, error: *mut u64);
+
     fn console_open(
         memory: *mut u64,
         memory_length: usize,

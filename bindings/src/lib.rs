@@ -3,7 +3,8 @@
 //!
 //! - Rows of the tables: [`Region`], [`Extern`], [`Parameter`], [`Node`], [`UnresolvedCallArgument`], [`Instruction`],
 //!   each with `row()`, its words; [`Tables`] lends them, `Program` (feature `std`) collects them.
-//! - Calls on the tables: [`check`], [`resolve`], [`access`]; on an expression: [`Walk::memory_references`].
+//! - Calls on the tables: [`check`], [`resolve`], [`access`], [`journal_length`]; on an expression:
+//!   [`Walk::memory_references`].
 //! - A session: [`Session::open`], [`forward`](Session::forward), [`back`](Session::back), [`reset`](Session::reset).
 //! - [`raw`] is the C interface as it is.
 //!
@@ -33,6 +34,7 @@ mod check;
 mod errors;
 mod foreign;
 mod instruction;
+mod journal_length;
 mod kind;
 mod operator;
 #[cfg(feature = "std")]
@@ -53,6 +55,7 @@ pub use argument::{ResolvedCallArgument, UnresolvedCallArgument, Vector};
 pub use argument_error::{CallArgumentError, CallArgumentResolutionError};
 pub use check::check;
 pub use instruction::{Instruction, Source};
+pub use journal_length::journal_length;
 pub use kind::Kind;
 pub use operator::{ArithmeticOperator, BinaryOperator, ComparisonOperator, FrameOperator, UnaryOperator};
 #[cfg(feature = "std")]
