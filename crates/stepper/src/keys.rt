@@ -4,6 +4,7 @@ use crate::steps::forward_key;
 use crate::steps::reset;
 use script::line::part;
 use script::line::word_at;
+use stepper_calls::length::measure;
 use stepper_calls::step::back_key;
 use stepper_calls::verdict::check_key;
 use stepper_desk::input::LINE;
@@ -49,11 +50,12 @@ pub fn open_file(
     if !loaded.has_file() {
         return loaded;
     }
+    let measured = measure(tables, loaded);
     let opened = reset(
-        part(buffer, 0, loaded.text),
+        part(buffer, 0, measured.text),
         names,
         tables,
-        loaded,
+        measured,
         memory,
         journal,
     );

@@ -1,4 +1,4 @@
-// The program: `FILE` steps it, `check FILE` tells its verdict, one after the other as they are named; `tables FILE` prints its six tables as words, `refusals` the page of refusals.
+// The program: `FILE` steps it, `check FILE` tells its verdict and how long a journal is enough, one after the other as they are named; `tables FILE` prints its six tables as words, `refusals` the page of refusals.
 use crate::keys::open_file;
 use crate::keys::turns;
 use libc::STDIN_FILENO;
@@ -14,15 +14,21 @@ use stepper_lines::help::help;
 use stepper_lines::page::page;
 use stepper_lines::print::number;
 use stepper_lines::print::text;
+use stepper_screen::enough::enough_line;
 use stepper_screen::screen::show;
 use stepper_screen::table_words::table_words;
 use stepper_tables::file::TABLE_WORDS;
 use stepper_words::names::NAME_WORDS;
 
-// The last line tells the verdict to the script that started the program.
-fn verdict(state: State) {
+// The last line tells the verdict to the script that started the program: of an accepted one it is the journal's.
+fn verdict(desk: Desk) {
+    let state = desk.state;
+    let enough = desk.enough;
     match state {
-        State::Opened => text(b"accepted\n"),
+        State::Opened => {
+            text(b"accepted\n");
+            enough_line(enough)
+        }
         State::NoFile => text(b"not read\n"),
         State::Refused(refusal) => {
             text(b"turned down ");
@@ -49,9 +55,8 @@ fn start(path: &[u8], only_check: bool, desk: Desk) {
         &mut journal,
         desk,
     );
-    let state = opened.state;
     if only_check {
-        verdict(state);
+        verdict(opened);
         return;
     }
     if !opened.has_file() {
@@ -97,7 +102,7 @@ fn arguments(desk: Desk) {
         at += 1;
     }
     if only_check {
-        verdict(State::NoFile);
+        verdict(desk);
     }
 }
 

@@ -1,5 +1,6 @@
-// The public calls on the tables as the terminal holds them; by them a step, the type check's verdict in words, the first CALL that does not resolve.
+// The public calls on the tables as the terminal holds them; by them a step, the type check's verdict in words, the first CALL that does not resolve, how long a journal is enough.
 pub mod bad_call;
+pub mod length;
 pub mod step;
 pub mod verdict;
 
@@ -15,6 +16,8 @@ use extern_call::rows::ResolveAnswer;
 use journal::position::Position;
 use session::answer::OpenAnswer;
 use session::answer::StepAnswer;
+use session_length::length::LengthAnswer;
+use session_length::length::journal_length;
 use stepper_tables::file::TABLES;
 use stepper_tables::held::table;
 use stepper_words::heading::Table;
@@ -65,6 +68,17 @@ pub fn access_row(
         row,
         reads,
         writes,
+    )
+}
+
+pub fn length_tables(tables: &[u64], lengths: [usize; TABLES]) -> LengthAnswer {
+    journal_length(
+        table(tables, Table::Regions, lengths),
+        table(tables, Table::Externs, lengths),
+        table(tables, Table::Parameters, lengths),
+        table(tables, Table::Nodes, lengths),
+        table(tables, Table::Arguments, lengths),
+        table(tables, Table::Instructions, lengths),
     )
 }
 

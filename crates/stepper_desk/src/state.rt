@@ -16,12 +16,20 @@ pub enum State {
     Refused(u64),
 }
 
-// The file's length, the tables' lengths in words and those of memory and journal, the position, how open answered, and whether keys are still read.
+// How long a journal is enough for every order of keys: so many entries; none, where the rows count more than a journal has; untold of a program that is turned down whatever is lent.
+pub enum Enough {
+    Entries(usize),
+    TooMany(usize),
+    Untold,
+}
+
+// The file's length, the tables' lengths in words and those of memory and journal, how long a journal is enough, the position, how open answered, and whether keys are still read.
 pub struct Desk {
     pub text: usize,
     pub lengths: [usize; TABLES],
     pub memory: usize,
     pub journal: usize,
+    pub enough: Enough,
     pub position: Position,
     pub view: View,
     pub state: State,
@@ -35,7 +43,8 @@ impl Desk {
         next
     }
 
-    pub fn stated(self, state: State) -> Desk {
+    // A field that is an enum cannot be assigned, so the desk is built anew.
+    fn told(self, state: State, enough: Enough) -> Desk {
         let lengths = self.lengths;
         let position = self.position;
         let view = self.view;
@@ -44,11 +53,22 @@ impl Desk {
             lengths,
             memory: self.memory,
             journal: self.journal,
+            enough,
             position,
             view,
             state,
             going: self.going,
         }
+    }
+
+    pub fn stated(self, state: State) -> Desk {
+        let enough = self.enough;
+        self.told(state, enough)
+    }
+
+    pub fn measured(self, enough: Enough) -> Desk {
+        let state = self.state;
+        self.told(state, enough)
     }
 
     pub fn has_file(self) -> bool {
@@ -95,6 +115,7 @@ pub fn new_desk(colour: bool, echo: bool) -> Desk {
         lengths: [0; TABLES],
         memory: 0,
         journal: 0,
+        enough: Enough::Untold,
         position,
         view,
         state: State::NoFile,

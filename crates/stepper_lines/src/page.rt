@@ -6,6 +6,7 @@ use crate::refusal::cause;
 use crate::refusal::mender;
 use tables::refusal::ARGUMENT_ERRORS;
 use tables::refusal::FOREIGN_POSITION;
+use tables::refusal::JOURNAL_FULL;
 use tables::refusal::NAME_TWICE;
 use tables::refusal::TABLE_SHAPE;
 use tables::refusal::TYPE_ERROR;
@@ -19,12 +20,12 @@ fn calls(refusal: u64) {
         all calls\n\
         all calls but the walk\n\
         resolve, access, open, forward, back\n\
-        check, open\n\
-        resolve, access, open, forward\n\
-        resolve, open, forward\n\
-        resolve (with the error rows), open, forward\n\
-        open (any row), forward (the current row)\n\
-        open, forward, back\n\
+        check, open, journal_length\n\
+        resolve, access, open, journal_length, forward\n\
+        resolve, open, journal_length, forward\n\
+        resolve (with the error rows), open, journal_length, forward\n\
+        open and journal_length (any row), forward (the current row)\n\
+        open, journal_length, forward, back\n\
         forward\n\
         back\n\
         forward\n\
@@ -38,7 +39,7 @@ fn calls(refusal: u64) {
     );
 }
 
-// Each kind of place, of type error and of argument error has an example of its own.
+// Each kind of place, of type error and of argument error has an example of its own, and so has a journal that is long enough.
 fn more(refusal: u64) {
     match refusal {
         TABLE_SHAPE => text(b"- A table over its limit: `examples/refusal-1-limit.tables`\n"),
@@ -51,6 +52,9 @@ fn more(refusal: u64) {
         ),
         ARGUMENT_ERRORS => text(
             b"- Argument error 1, not declared; 2, another vector; 3, another kind of scalar; 4, no vector; 5, an immediate for the return; 6, an immediate for a mutable parameter: `examples/argument-error-1.tables` to `-6.tables`\n",
+        ),
+        JOURNAL_FULL => text(
+            b"- With no foreign writer at work it does not come where the journal is as long as journal_length says: `examples/journal-most.tables`, the longest that there is. Where that is more than 2,048 entries no journal is sure to be long enough: `examples/journal-long.tables`\n",
         ),
         _ => {}
     }
@@ -92,6 +96,7 @@ fn intro() {
         | access | 1, 2, 3, 6, 4 |\n\
         | walk | 1, 2 |\n\
         | open | 1, 2, 3, 10, 4, 5, 9, then 6, 7, 8 row by row |\n\
+        | journal_length | 1, 2, 3, 10, 5, 9, then 6, 7, 8 row by row |\n\
         | forward, a CALL | 1, 2, 3, 10, 4, 19, 11, 9, 6, 7, 8, 14, 17, 13 |\n\
         | forward, any other row | 1, 2, 3, 10, 4, 19, 11, 9, 17, 18 (names), 14 (written indices), 18 (the row's cells), 14 (an index from a cell), 18 (the cell reached), 15, 16, 13 |\n\
         | back | 1, 2, 3, 10, 4, 19 (position), 12, 19 (journal) |\n",

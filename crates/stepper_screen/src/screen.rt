@@ -1,4 +1,5 @@
-// The screen: how far the program is, its rows with the current one marked, and the regions with their cells and what the last step changed.
+// The screen: how far the program is and how long a journal is enough, its rows with the current one marked, and the regions with their cells and what the last step changed.
+use crate::enough::beside_used;
 use crate::named::named_regions;
 use crate::regions::region_lines;
 use journal::entries::ENTRY_WIDTH;
@@ -8,6 +9,7 @@ use stepper_desk::current::row_at;
 use stepper_desk::state::Desk;
 use stepper_desk::state::MEMORY_WORDS;
 use stepper_desk::state::TEXT_BYTES;
+use stepper_lines::print::byte;
 use stepper_lines::print::number;
 use stepper_lines::print::text;
 use stepper_lines::program::program_rows;
@@ -20,6 +22,7 @@ use tables::rows::REGION_LIMIT;
 
 fn head(desk: Desk, rows: usize) {
     let position = desk.position;
+    let enough = desk.enough;
     text(b"-- ");
     number(position.done as u64);
     text(b" of ");
@@ -28,7 +31,9 @@ fn head(desk: Desk, rows: usize) {
     number(position.used as u64);
     text(b" of ");
     number((desk.journal / ENTRY_WIDTH) as u64);
-    text(b" journal entries used\n");
+    text(b" journal entries used");
+    beside_used(enough);
+    byte(b'\n');
 }
 
 // For each region whether the current row names it.
