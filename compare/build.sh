@@ -109,8 +109,8 @@ offline() {
 
 build() { offline build "$@"; }
 
-# The bench lines, by hand, on the plain machine.
-bench_lines() {
-    say "the bench lines on the plain machine"
-    offline test -p plain >target/bench_lines.log 2>&1 || fail "not as the papers say: see compare/target/bench_lines.log"
+# The bench lines and 02's counts of journal entries, by hand, on the plain machine.
+by_hand() {
+    say "the bench lines and counts by hand on the plain machine"
+    offline test -p plain >target/by_hand.log 2>&1 || fail "not as the papers say: see compare/target/by_hand.log"
 }

@@ -1,6 +1,6 @@
 //! An unproved copy of the library: crates/*/src without the contracts, compiled as Rust. Sensitivity runs edit such a
 //! copy; the proved library itself cannot be had with the edit in it.
-use console_c::{access, back, check, forward, open, reference, references, resolve};
+use console_c::{access, back, check, forward, journal_length, open, reference, references, resolve};
 use tables::{Console, Session, Tables};
 
 pub struct Unproved;
@@ -51,6 +51,10 @@ impl Console for Unproved {
 }
 
 impl Session for Unproved {
+    fn journal_length(&self, tables: &Tables, entries: &mut [u64; 1], error: &mut [u64; 6]) -> u64 {
+        with_tables!(journal_length::console_journal_length, tables, entries, error)
+    }
+
     fn open(
         &self,
         tables: &Tables,

@@ -49,6 +49,10 @@ impl Console for Proved {
 }
 
 impl Session for Proved {
+    fn journal_length(&self, tables: &Tables, entries: &mut [u64; 1], error: &mut [u64; 6]) -> u64 {
+        raw::journal_length(&lent(tables), entries, error)
+    }
+
     fn open(
         &self,
         tables: &Tables,

@@ -13,9 +13,9 @@ pub struct History {
 }
 
 impl History {
-    /// Of tables that were opened, with a journal of so many words.
-    pub fn new(tables: &Tables, journal: usize) -> Self {
-        History { tables: tables.clone(), entries: journal as u64 / 3, replies: Vec::new() }
+    /// Of tables that were opened, with a journal of so many entries.
+    pub fn new(tables: &Tables, entries: u64) -> Self {
+        History { tables: tables.clone(), entries, replies: Vec::new() }
     }
 
     /// "Zero with declared kinds, then row 0 done with the first reply, row 1 with the second, and so on"; and "the

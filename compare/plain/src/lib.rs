@@ -1,9 +1,10 @@
-//! A plain machine for open, forward and back, written from the papers (01, 02) and docs/DECISIONS.md: not from the library's definitions
-//! and not from quil-rs. It is slow and looks at everything anew in each call.
+//! A plain machine for journal_length, open, forward and back, written from the papers (01, 02) and docs/DECISIONS.md: not from the
+//! library's definitions and not from quil-rs. It is slow and looks at everything anew in each call.
 mod call;
 mod check;
 mod history;
 mod layout;
+mod length;
 mod loader;
 mod operators;
 mod rows;
@@ -13,7 +14,8 @@ mod step;
 pub use call::{resolve, Resolved};
 pub use history::History;
 pub use layout::{cell_count, regions, word_fits, Region};
-pub use loader::load;
+pub use length::journal_entries;
+pub use loader::{load, ENTRIES, ENTRY};
 pub use session::Plain;
 
 /// Kinds of regions and cells.

@@ -1,20 +1,26 @@
-//! The loader's causes: 1, 2, 3 over the tables, then 10, then 4 over what is lent.
+//! The loader's causes: 1, 2, 3 over the tables, then 10; and 4 over what is lent.
 use crate::layout::cell_count;
 use tables::{Tables, ARGUMENT, EXTERN, INSTRUCTION, NODE, PARAMETER, REGION};
 
 const CELLS: u128 = 4096;
-const ENTRIES: usize = 2048;
 
-/// Tables and lent lengths in the order 1, 2, 3, 10, 4. The number of cells, or the refusal.
-pub fn load(tables: &Tables, memory: usize, journal: usize) -> Result<usize, u64> {
+/// "The journal, at most 2,048 entries of three words."
+pub const ENTRIES: usize = 2048;
+pub const ENTRY: usize = 3;
+
+/// The tables in the order 1, 2, 3, 10. The number of cells, or the refusal.
+pub fn load(tables: &Tables) -> Result<usize, u64> {
     need(whole(tables), 1)?;
     need(words_allowed(tables), 2)?;
     need(distinct(&tables.regions, REGION) && distinct(&tables.externs, EXTERN), 3)?;
     let cells = cell_count(tables);
     need(cells <= CELLS, 10)?;
-    let cells = cells as usize;
-    need(memory >= 2 * cells && journal % 3 == 0 && journal / 3 <= ENTRIES, 4)?;
-    Ok(cells)
+    Ok(cells as usize)
+}
+
+/// "4 lent buffer too short, or journal not whole entries or too long."
+pub fn lent(cells: usize, memory: &[u64], journal: &[u64]) -> Result<(), u64> {
+    need(memory.len() >= 2 * cells && journal.len() % ENTRY == 0 && journal.len() / ENTRY <= ENTRIES, 4)
 }
 
 pub fn need(holds: bool, number: u64) -> Result<(), u64> {

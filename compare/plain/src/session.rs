@@ -1,21 +1,25 @@
-//! Open, forward and back on lent memory and a lent journal.
+//! Journal_length on the tables alone; open, forward and back on lent memory and a lent journal.
 use crate::{
     call::resolve,
     check::type_error,
     layout::{cell, set_cell, zeros, Cell},
-    loader::{load, need},
+    length::journal_entries,
+    loader::{lent, load, need, ENTRY},
     rows::{instruction, Instruction},
     step::outcome,
 };
 use tables::{Session, Tables, INSTRUCTION};
 
-/// Words in a journal entry.
-const ENTRY: usize = 3;
-
 /// The machine on lent buffers.
 pub struct Plain;
 
 impl Session for Plain {
+    /// "A program that open would turn down gets open's number, buffers apart."
+    fn journal_length(&self, tables: &Tables, length: &mut [u64; 1], error: &mut [u64; 6]) -> u64 {
+        let buffers_apart = |_| Ok(());
+        answer(looks(tables, buffers_apart, error).map(|_| [journal_entries(tables)]), length)
+    }
+
     fn open(
         &self,
         tables: &Tables,
@@ -43,18 +47,21 @@ impl Session for Plain {
     }
 }
 
-fn answer(done: Result<[u64; 2], u64>, position: &mut [u64; 2]) -> u64 {
+/// An out-array is written on 0 alone.
+fn answer<const N: usize>(done: Result<[u64; N], u64>, out: &mut [u64; N]) -> u64 {
     match done {
         Ok(new) => {
-            *position = new;
+            *out = new;
             0
         }
         Err(number) => number,
     }
 }
 
-fn open(tables: &Tables, memory: &mut [u64], journal: &[u64], error: &mut [u64; 6]) -> Result<[u64; 2], u64> {
-    let cells = load(tables, memory.len(), journal.len())?;
+/// Open's looks: 1, 2, 3, 10, those at the buffers for so many cells, then 5, 9, and 6, 7, 8 by row. The number of cells.
+fn looks(tables: &Tables, buffers: impl Fn(usize) -> Result<(), u64>, error: &mut [u64; 6]) -> Result<usize, u64> {
+    let cells = load(tables)?;
+    buffers(cells)?;
     if let Some(found) = type_error(tables) {
         *error = found;
         return Err(5);
@@ -66,6 +73,11 @@ fn open(tables: &Tables, memory: &mut [u64], journal: &[u64], error: &mut [u64; 
             resolve(tables, name, first_argument, arguments)?;
         }
     }
+    Ok(cells)
+}
+
+fn open(tables: &Tables, memory: &mut [u64], journal: &[u64], error: &mut [u64; 6]) -> Result<[u64; 2], u64> {
+    let cells = looks(tables, |cells| lent(cells, memory, journal), error)?;
     memory[..2 * cells].copy_from_slice(&zeros(tables));
     Ok([0, 0])
 }
@@ -77,7 +89,8 @@ fn forward(
     [done, used]: [u64; 2],
     reply: &[u64],
 ) -> Result<[u64; 2], u64> {
-    let cells = load(tables, memory.len(), journal.len())?;
+    let cells = load(tables)?;
+    lent(cells, memory, journal)?;
     let (rows, entries) = lengths(tables, journal);
     need(done <= rows && used <= entries, 19)?;
     need(done < rows, 11)?;
@@ -96,7 +109,8 @@ fn forward(
 }
 
 fn back(tables: &Tables, memory: &mut [u64], journal: &[u64], [done, used]: [u64; 2]) -> Result<[u64; 2], u64> {
-    let cells = load(tables, memory.len(), journal.len())? as u64;
+    let cells = load(tables)?;
+    lent(cells, memory, journal)?;
     let (rows, entries) = lengths(tables, journal);
     need(done <= rows && used <= entries, 19)?;
     need(done > 0, 12)?;
@@ -106,7 +120,7 @@ fn back(tables: &Tables, memory: &mut [u64], journal: &[u64], [done, used]: [u64
     need(changes <= closing, 19)?;
     let first = closing - changes;
     let log = &journal[ENTRY * first as usize..ENTRY * closing as usize];
-    need(log.chunks(ENTRY).all(|entry| entry[0] < cells), 19)?;
+    need(log.chunks(ENTRY).all(|entry| entry[0] < cells as u64), 19)?;
     for entry in log.chunks(ENTRY).rev() {
         set_cell(memory, entry[0], Cell { kind: entry[1], word: entry[2] });
     }

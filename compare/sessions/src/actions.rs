@@ -4,10 +4,10 @@ use crate::{
     list::{set_table, table_mut, Action, List},
     programs::program,
     replies::reply,
-    side::Side,
+    side::{journal_length, Side},
     values,
 };
-use plain::{cell_count, Plain};
+use plain::{cell_count, Plain, ENTRIES, ENTRY};
 use tables::{blanks, random_numbers::Random, Tables, INSTRUCTION};
 
 /// How a list treats the machine.
@@ -21,6 +21,19 @@ enum Manner {
     Unopened,
 }
 
+/// How its calls are drawn.
+struct Course {
+    manner: Manner,
+    count: usize,
+    /// How many of a hundred calls are forward.
+    forward: u64,
+    /// Towards the end: opened once, and every CALL gets a reply of the most rows.
+    pressed: bool,
+}
+
+/// A pressed list is not longer.
+const LONGEST: usize = 120;
+
 pub fn list(random: &mut Random) -> List {
     let tables = program(random);
     let manner = random.pick(&[Manner::Ours, Manner::Ours, Manner::Foreign, Manner::Foreign, Manner::Unopened]);
@@ -28,23 +41,49 @@ pub fn list(random: &mut Random) -> List {
     let memory = words + random.pick(&[0, 0, 1, 2, 7]);
     let entries = match random.below(20) {
         few @ 0..=3 => few as usize,
-        4 => 2048,
+        4 => ENTRIES,
         5..=9 => random.size(30),
         _ => random.size(300),
     };
     let mut list =
-        List { tables, memory: blanks(memory), journal: blanks(3 * entries), position: [77, 78], actions: Vec::new() };
+        List { tables, memory: blanks(memory), journal: lent(entries), position: [77, 78], actions: Vec::new() };
     if manner == Manner::Unopened {
         unopened(random, &mut list);
     }
+    let mut bought = false;
     if random.chance(15) {
         damage(random, &mut list);
+    } else if manner == Manner::Ours {
+        bought = buy(random, &mut list);
+    }
+    let course = course(random, manner, rows(&list.tables) as usize, bought);
+    list.actions = actions(random, &list, &course);
+    list
+}
+
+fn lent(entries: usize) -> Vec<u64> {
+    blanks(ENTRY * entries)
+}
+
+/// Often just the journal that 02 says to buy, or one entry less, if the program is accepted and there is such a journal.
+fn buy(random: &mut Random, list: &mut List) -> bool {
+    let entries = match (journal_length(&list.tables), random.below(10)) {
+        (Some(sum @ 0..=ENTRIES), 0..=3) => sum,
+        (Some(sum @ 1..=ENTRIES), 4..=6) => sum - 1,
+        _ => return false,
+    };
+    list.journal = lent(entries);
+    true
+}
+
+/// With a journal that was bought mostly one that is pressed on.
+fn course(random: &mut Random, manner: Manner, rows: usize, bought: bool) -> Course {
+    if bought && random.chance(70) {
+        return Course { manner, count: LONGEST.min(rows + rows / 3 + 4), forward: 95, pressed: true };
     }
     let most = random.pick(&[6, 30, 30, 80]);
     let forward = random.pick(&[60, 75, 90]);
-    let count = 1 + random.size(most);
-    list.actions = actions(random, &list, manner, count, forward);
-    list
+    Course { manner, count: 1 + random.size(most), forward, pressed: false }
 }
 
 /// Cells of declared kinds or any, a journal of small words and a position inside.
@@ -70,28 +109,35 @@ fn rows(tables: &Tables) -> u64 {
     (tables.instructions.len() / INSTRUCTION) as u64
 }
 
-fn actions(random: &mut Random, list: &List, manner: Manner, count: usize, forward: u64) -> Vec<Action> {
+fn actions(random: &mut Random, list: &List, course: &Course) -> Vec<Action> {
     let mut tables = list.tables.clone();
     let mut side = Side::new(&Plain, list);
+    let mut opened = course.manner == Manner::Unopened;
     let mut actions = Vec::new();
-    while actions.len() < count {
-        let action = match actions.is_empty() && manner != Manner::Unopened {
-            true => Action::Open,
-            false if manner != Manner::Ours && random.chance(20) => foreign(random, &tables, &side),
-            false if random.chance(2) => Action::Open,
-            false if random.chance(forward) => {
+    while actions.len() < course.count {
+        let action = match opened {
+            _ if random.chance(5) => Action::JournalLength,
+            false => Action::Open,
+            true if course.manner != Manner::Ours && random.chance(20) => foreign(random, &tables, &side),
+            true if !course.pressed && random.chance(2) => Action::Open,
+            true if random.chance(course.forward) => {
                 let done = usize::try_from(side.position[0]).unwrap_or(usize::MAX);
                 let row = tables.instructions.chunks_exact(INSTRUCTION).nth(done);
-                let loaded = plain::load(&tables, usize::MAX, 0).is_ok();
-                Action::Forward(reply(random, &tables, row.filter(|_| loaded)))
+                let loaded = plain::load(&tables).is_ok();
+                Action::Forward(reply(random, &tables, row.filter(|_| loaded), course.pressed))
             }
-            false => Action::Back,
+            true => Action::Back,
         };
+        opened |= action == Action::Open;
         if let Action::Table(table, at, word) = action {
             set_table(&mut tables, table, at, word);
         }
-        side.act(&tables, &action);
+        let answer = side.act(&tables, &action);
         actions.push(action);
+        // Pressed again, a row would mostly meet the same.
+        if course.pressed && matches!(answer, Some(14..=16)) {
+            break;
+        }
     }
     actions
 }

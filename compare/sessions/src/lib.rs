@@ -1,8 +1,9 @@
-//! Call lists by chance through open, forward and back, against the plain machine on the same lent words, and against
-//! demand 3's machine where only our calls wrote.
+//! Call lists by chance through journal_length, open, forward and back, against the plain machine on the same lent words,
+//! and against demand 3's machine and 02's claim about the journal where only our calls wrote.
 mod actions;
 mod damage;
 mod externs;
+mod journals;
 mod list;
 mod options;
 mod player;
@@ -24,7 +25,7 @@ use tables::{random_numbers::Random, Session};
 /// Differences that are shrunk and shown.
 const SHOWN: u64 = 3;
 
-/// Runs the program of that library, and ends the process: 0 if nothing differs and every refusal was reached, else 1;
+/// Runs the program of that library, and ends the process: 0 if nothing differs and nothing is missing, else 1;
 /// 2 on bad usage.
 pub fn main(library: Box<dyn Session>) {
     let options = Options::read(std::env::args().skip(1)).unwrap_or_else(|message| {
@@ -47,8 +48,7 @@ pub fn main(library: Box<dyn Session>) {
 
 fn one(library: &dyn Session, report: &mut Report, mut list: List) {
     let found = play(library, &list, &mut |call| report.seen(&call));
-    report.lists += 1;
-    report.foreign(&list.actions);
+    report.played(&list);
     if let Some(Difference { at, .. }) = found {
         report.differ += 1;
         if report.differ <= SHOWN {

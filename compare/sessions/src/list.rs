@@ -14,6 +14,7 @@ pub struct List {
 
 #[derive(Clone, Debug, PartialEq)]
 pub enum Action {
+    JournalLength,
     Open,
     /// With its reply.
     Forward(Vec<u64>),
@@ -47,7 +48,7 @@ pub fn set_table(tables: &mut Tables, table: usize, at: usize, word: u64) {
 impl List {
     pub fn text(&self) -> String {
         let mut text = words_text(&self.tables);
-        if plain::load(&self.tables, usize::MAX, 0).is_ok() {
+        if plain::load(&self.tables).is_ok() {
             text += &quil_text(&self.tables);
         }
         let _ = writeln!(text, "memory of {} words: {}", self.memory.len(), some(&self.memory));
@@ -61,8 +62,14 @@ impl List {
 }
 
 impl Action {
+    /// One of ours, and not a foreign writer's.
+    pub fn is_call(&self) -> bool {
+        matches!(self, Action::JournalLength | Action::Open | Action::Forward(_) | Action::Back)
+    }
+
     pub fn text(&self) -> String {
         match self {
+            Action::JournalLength => "journal_length".to_string(),
             Action::Open => "open".to_string(),
             Action::Forward(reply) if reply.is_empty() => "forward".to_string(),
             Action::Forward(reply) => format!("forward, reply of {} words: {}", reply.len(), some(reply)),

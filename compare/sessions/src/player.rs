@@ -3,17 +3,19 @@ use crate::{
     list::{set_table, Action, List},
     side::Side,
 };
-use plain::{History, Plain};
+use plain::{journal_entries, History, Plain, ENTRY};
 use tables::{Session, Tables, INSTRUCTION};
 
 /// A call that both sides answered alike.
 pub struct Call<'a> {
     pub action: &'a Action,
     pub number: u64,
+    /// What journal_length gave.
+    pub entries: u64,
     /// The row that the position named before the call, if there is one.
     pub row: Option<&'a [u64]>,
-    /// Whether demand 3's machine was asked too.
-    pub replayed: bool,
+    /// Where demand 3's machine stands beside: how many entries the journal has above the sum that 02 counts.
+    pub spare: Option<i64>,
 }
 
 /// What differs after a call, and the call's place in the list.
@@ -23,43 +25,19 @@ pub struct Difference {
 }
 
 pub fn play(library: &dyn Session, list: &List, seen: &mut dyn FnMut(Call)) -> Option<Difference> {
-    // Each side is lent tables of its own.
-    let (mut tables, mut lent) = (list.tables.clone(), list.tables.clone());
-    let (mut ours, mut theirs) = (Side::new(&Plain, list), Side::new(library, list));
-    let mut replay: Option<Replay> = None;
+    let mut both = Both::new(library, list);
     for (at, action) in list.actions.iter().enumerate() {
-        let difference = |what: String| Some(Difference { at, what });
-        let done = ours.position[0];
-        let (number, got) = match (ours.act(&tables, action), theirs.act(&lent, action)) {
-            (Some(number), Some(got)) => (number, got),
-            // A foreign writer's.
-            _ => {
-                if let Action::Table(table, place, word) = action {
-                    set_table(&mut tables, *table, *place, *word);
-                    set_table(&mut lent, *table, *place, *word);
-                }
-                replay = None;
-                continue;
-            }
+        let done = both.ours.position[0];
+        let number = match both.act(action) {
+            Ok(Some(number)) => number,
+            Ok(None) => continue,
+            Err(what) => return Some(Difference { at, what }),
         };
-        if got != number {
-            return difference(format!("number: plain {number}, library {got}"));
+        let (entries, row, spare) = (both.ours.entries[0], row(&both.tables, done), both.spare());
+        seen(Call { action, number, entries, row, spare });
+        if let Some(what) = both.replay.as_ref().and_then(|replay| replay.broken(number, &both.theirs)) {
+            return Some(Difference { at, what });
         }
-        if let Some(what) = ours.differs(&theirs) {
-            return difference(what);
-        }
-        if tables != lent {
-            return difference("a table was written".to_string());
-        }
-        if number == 0 && *action == Action::Open {
-            replay = Some(Replay::new(&tables, list, &theirs));
-        } else if let Some(what) = replay.as_mut().and_then(|replay| replay.call(action, number)) {
-            return difference(what);
-        }
-        if let Some(what) = replay.as_ref().and_then(|replay| replay.differs(&theirs)) {
-            return difference(what);
-        }
-        seen(Call { action, number, row: row(&tables, done), replayed: replay.is_some() });
     }
     None
 }
@@ -68,18 +46,74 @@ fn row(tables: &Tables, done: u64) -> Option<&[u64]> {
     tables.instructions.chunks_exact(INSTRUCTION).nth(usize::try_from(done).ok()?)
 }
 
+/// The plain machine and the library, each lent tables of its own, and demand 3's machine beside them.
+struct Both<'a> {
+    tables: Tables,
+    lent: Tables,
+    ours: Side<'a>,
+    theirs: Side<'a>,
+    replay: Option<Replay>,
+}
+
+impl<'a> Both<'a> {
+    fn new(library: &'a dyn Session, list: &List) -> Self {
+        let (ours, theirs) = (Side::new(&Plain, list), Side::new(library, list));
+        Both { tables: list.tables.clone(), lent: list.tables.clone(), ours, theirs, replay: None }
+    }
+
+    /// The answer to a call, or what differs; what a foreign writer does has no answer.
+    fn act(&mut self, action: &Action) -> Result<Option<u64>, String> {
+        match (self.ours.act(&self.tables, action), self.theirs.act(&self.lent, action)) {
+            (Some(number), Some(got)) if number == got => self.answered(action, number).map(|()| Some(number)),
+            (Some(number), Some(got)) => Err(format!("number: plain {number}, library {got}")),
+            _ => {
+                if let Action::Table(table, place, word) = action {
+                    set_table(&mut self.tables, *table, *place, *word);
+                    set_table(&mut self.lent, *table, *place, *word);
+                }
+                self.replay = None;
+                Ok(None)
+            }
+        }
+    }
+
+    fn answered(&mut self, action: &Action, number: u64) -> Result<(), String> {
+        same(self.ours.differs(&self.theirs))?;
+        same((self.tables != self.lent).then(|| "a table was written".to_string()))?;
+        if number == 0 && *action == Action::Open {
+            self.replay = Some(Replay::new(&self.tables, &self.theirs));
+        } else if let Some(replay) = &mut self.replay {
+            same(replay.call(action, number))?;
+        }
+        same(self.replay.as_ref().and_then(|replay| replay.differs(&self.theirs)))
+    }
+
+    fn spare(&self) -> Option<i64> {
+        self.replay.as_ref().map(|replay| replay.entries as i64 - replay.sum as i64)
+    }
+}
+
+fn same(difference: Option<String>) -> Result<(), String> {
+    difference.map_or(Ok(()), Err)
+}
+
 /// Demand 3's machine beside a session that only our calls wrote.
 struct Replay {
     history: History,
     /// Memory past the cells as open left it.
     past: Vec<u64>,
+    /// The journal's entries, and the sum that 02 counts for the program.
+    entries: u64,
+    sum: u64,
 }
 
 impl Replay {
-    fn new(tables: &Tables, list: &List, opened: &Side) -> Self {
-        let history = History::new(tables, list.journal.len());
+    fn new(tables: &Tables, opened: &Side) -> Self {
+        let entries = opened.journal().len() / ENTRY;
+        let history = History::new(tables, entries as u64);
         let cells = history.replay().0.len();
-        Replay { history, past: opened.memory()[cells..].to_vec() }
+        let past = opened.memory()[cells..].to_vec();
+        Replay { history, past, entries: entries as u64, sum: journal_entries(tables) }
     }
 
     /// The answer must be the number.
@@ -102,5 +136,15 @@ impl Replay {
             return Some(format!("cell word {at}: demand 3's machine {:x}, library {:x}", cells[at], here[at]));
         }
         (past != self.past).then(|| "memory past the cells was written".to_string())
+    }
+
+    /// "With a journal of at least that many entries no sequence of forward and back meets refusal 13, and the entries
+    /// in use never exceed the sum."
+    fn broken(&self, number: u64, library: &Side) -> Option<String> {
+        let (entries, sum, used) = (self.entries, self.sum, library.position[1]);
+        if number == 13 && entries >= sum {
+            return Some(format!("02's claim: 13 with a journal of {entries} entries, the sum is {sum}"));
+        }
+        (used > sum).then(|| format!("02's claim: {used} entries in use, the sum is {sum}"))
     }
 }

@@ -1,6 +1,6 @@
 //! Programs by chance that mostly pass the type check and run.
 use crate::values;
-use tables::{random_numbers::Random, Tables, ARGUMENT, INSTRUCTION, NODE, PARAMETER};
+use tables::{random_numbers::Random, Tables, ARGUMENT, EXTERN, INSTRUCTION, NODE, NO_RETURN, PARAMETER};
 
 const CELLS: u64 = 4096;
 
@@ -20,6 +20,7 @@ pub fn program(random: &mut Random) -> Tables {
     match builder.random.below(100) {
         0 => builder.at_the_limits(),
         1 => builder.wide(),
+        2..=5 => builder.calls(),
         _ => builder.small(),
     }
     builder.tables
@@ -38,6 +39,25 @@ impl Builder<'_> {
         self.externs(externs);
         let most = self.random.pick(&[4, 20, 40, 80]);
         (0..self.random.size(most)).for_each(|_| self.row());
+    }
+
+    /// Mostly CALLs, as many as the longest journal is enough for and more. Each returns something, so that a reply
+    /// has a cell to write.
+    fn calls(&mut self) {
+        let lengths: Vec<u64> = (0..4).map(|_| 1 + self.random.below(3)).collect();
+        self.regions(&lengths);
+        self.externs(3);
+        let kinds: Vec<u64> = self.tables.regions().map(|r| r[1]).collect();
+        for called in self.tables.externs.chunks_exact_mut(EXTERN).filter(|called| called[1] == NO_RETURN) {
+            called[1] = self.random.pick(&kinds);
+        }
+        let most = self.random.pick(&[4, 16, 36, 36, 60]);
+        for _ in 0..self.random.size(most) {
+            match self.random.below(8) {
+                0 => self.row(),
+                _ => self.row_of(Self::call),
+            }
+        }
     }
 
     /// Exactly as many cells as a machine can have, in few regions.

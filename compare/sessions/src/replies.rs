@@ -5,22 +5,28 @@ use tables::{random_numbers::Random, Tables};
 
 const ROWS: usize = 64;
 
-/// A reply to the row at that position.
-pub fn reply(random: &mut Random, tables: &Tables, row: Option<&[u64]>) -> Vec<u64> {
+/// A reply to the row at that position; of the most rows where the list is pressed on.
+pub fn reply(random: &mut Random, tables: &Tables, row: Option<&[u64]>, pressed: bool) -> Vec<u64> {
     let resolved = match row {
         Some(row) if row[0] == 9 => resolve(tables, row[2], row[3] as usize, row[4] as usize).unwrap_or_default(),
         // Outside a call.
         _ if random.chance(96) => return Vec::new(),
         _ => return vec![0, 0, 1, 1],
     };
-    let mut reply = fit(random, &resolved);
-    if random.chance(25) {
+    let (rows, spoiled) = match (pressed, random.below(30)) {
+        (true, _) => (ROWS, 5),
+        (false, 0) => (ROWS, 25),
+        (false, 1) => (ROWS - 1, 25),
+        (false, _) => (random.size(6), 25),
+    };
+    let mut reply = fit(random, &resolved, rows);
+    if random.chance(spoiled) {
         spoil(random, &resolved, &mut reply);
     }
     reply
 }
 
-fn fit(random: &mut Random, resolved: &[Resolved]) -> Vec<u64> {
+fn fit(random: &mut Random, resolved: &[Resolved], rows: usize) -> Vec<u64> {
     let places: Vec<(u64, u64, u64)> = (0..)
         .zip(resolved)
         .filter_map(|(argument, resolved)| match *resolved {
@@ -31,11 +37,6 @@ fn fit(random: &mut Random, resolved: &[Resolved]) -> Vec<u64> {
             _ => None,
         })
         .collect();
-    let rows = match random.below(30) {
-        0 => ROWS,
-        1 => ROWS - 1,
-        _ => random.size(6),
-    };
     let mut reply = Vec::new();
     for _ in 0..rows {
         if let Some(&(argument, length, kind)) = random.choose(&places) {

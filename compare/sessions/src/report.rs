@@ -1,11 +1,17 @@
 //! Counts of answers by call, steps by family, and the progress line.
-use crate::{list::Action, player::Call};
+use crate::{
+    journals::Journals,
+    list::{Action, List},
+    player::Call,
+};
+use plain::ENTRIES;
 use std::{collections::BTreeMap, io::Write, time::Instant};
 
-const CALLS: [&str; 3] = ["open", "forward", "back"];
+const CALLS: [&str; 4] = ["journal_length", "open", "forward", "back"];
 
-/// The refusals that each call can give, in 01's order.
-const REFUSALS: [&[u64]; 3] = [
+/// The refusals that each call can give, in the papers' order.
+const REFUSALS: [&[u64]; 4] = [
+    &[1, 2, 3, 10, 5, 9, 6, 7, 8],
     &[1, 2, 3, 10, 4, 5, 9, 6, 7, 8],
     &[1, 2, 3, 10, 4, 19, 11, 9, 6, 7, 8, 14, 17, 13, 18, 15, 16],
     &[1, 2, 3, 10, 4, 19, 12],
@@ -27,40 +33,63 @@ pub struct Report {
     steps: BTreeMap<(u64, u64), u64>,
     refused: BTreeMap<(u64, u64), u64>,
     foreign: u64,
+    journals: Journals,
+    /// Sums that no journal can have as its entries.
+    above: u64,
+}
+
+/// A call by its place among them.
+fn place(action: &Action) -> Option<usize> {
+    match action {
+        Action::JournalLength => Some(0),
+        Action::Open => Some(1),
+        Action::Forward(_) => Some(2),
+        Action::Back => Some(3),
+        _ => None,
+    }
 }
 
 impl Report {
     pub fn seen(&mut self, call: &Call) {
-        let of = match call.action {
-            Action::Open => 0,
-            Action::Forward(_) => 1,
-            Action::Back => 2,
-            _ => return,
+        let of = match place(call.action) {
+            Some(of) => of,
+            None => return,
         };
+        self.journals.seen(call);
         *self.answers.entry((of, call.number)).or_default() += 1;
-        if call.replayed {
+        // Journal_length is none of that machine's calls.
+        if call.spare.is_some() && *call.action != Action::JournalLength {
             *self.replayed.entry((of, call.number)).or_default() += 1;
         }
-        match (of, call.number, call.row) {
-            (1, 0, Some(row)) => *self.steps.entry((row[0], row[1])).or_default() += 1,
-            (1, number, Some(row)) => *self.refused.entry((row[0], number)).or_default() += 1,
+        match (call.action, call.number, call.row) {
+            (Action::JournalLength, 0, _) => self.above += u64::from(call.entries > ENTRIES as u64),
+            (Action::Forward(_), 0, Some(row)) => *self.steps.entry((row[0], row[1])).or_default() += 1,
+            (Action::Forward(_), number, Some(row)) => *self.refused.entry((row[0], number)).or_default() += 1,
             _ => {}
         }
     }
 
-    pub fn foreign(&mut self, actions: &[Action]) {
-        let calls = |action: &&Action| matches!(action, Action::Open | Action::Forward(_) | Action::Back);
-        self.foreign += (actions.len() - actions.iter().filter(calls).count()) as u64;
+    pub fn played(&mut self, list: &List) {
+        self.lists += 1;
+        self.foreign += list.actions.iter().filter(|action| !action.is_call()).count() as u64;
+        self.journals.played(list);
     }
 
-    /// Refusals that a call can give and did not.
+    /// Refusals that a call can give and did not, and what else a run has to meet.
     pub fn missing(&self) -> Vec<String> {
         let given = |of, number| self.answers.contains_key(&(of, number));
-        (0..3)
+        let mut missing: Vec<String> = (0..CALLS.len())
             .flat_map(|of| REFUSALS[of].iter().map(move |&number| (of, number)))
             .filter(|&(of, number)| !given(of, number))
             .map(|(of, number)| format!("{} {number}", CALLS[of]))
-            .collect()
+            .collect();
+        if self.above == 0 {
+            missing.push(format!("a sum above {ENTRIES}"));
+        }
+        if !self.journals.tight() {
+            missing.push("13 with one entry less than the sum".to_string());
+        }
+        missing
     }
 
     pub fn print(&self, seconds: f64) {
@@ -75,6 +104,7 @@ impl Report {
             self.foreign,
             self.lists as f64 / seconds
         );
+        println!("{}; sums above {ENTRIES}: {}", self.journals.text(), self.above);
         let missing = self.missing();
         println!("not reached: {}", if missing.is_empty() { "none".to_string() } else { missing.join(", ") });
         println!("differ {}", self.differ);
@@ -82,7 +112,8 @@ impl Report {
 
     fn print_answers(&self) {
         println!("answers that agreed, in brackets those also compared with demand 3's machine:");
-        println!("{:>8}{:>22}{:>22}{:>22}", "number", CALLS[0], CALLS[1], CALLS[2]);
+        let line = |columns: [String; 4]| columns.iter().map(|column| format!("{column:>22}")).collect::<String>();
+        println!("{:>8}{}", "number", line(CALLS.map(String::from)));
         for number in 0..=19 {
             let column = |of: usize| {
                 let count = |table: &BTreeMap<_, u64>| table.get(&(of, number)).copied().unwrap_or(0);
@@ -93,8 +124,7 @@ impl Report {
                     (all, replayed) => format!("{all} {:<10}", format!("({replayed})")),
                 }
             };
-            let line = format!("{number:>8}{:>22}{:>22}{:>22}", column(0), column(1), column(2));
-            println!("{}", line.trim_end());
+            println!("{}", format!("{number:>8}{}", line([0, 1, 2, 3].map(column))).trim_end());
         }
     }
 

@@ -7,9 +7,13 @@ const ANY: [u64; 4] = [0, 1, 2, 3];
 const EPSILON: u64 = 0x3CB0_0000_0000_0000;
 
 impl Builder<'_> {
-    /// NOP where the program has no region that the rows tried need.
     pub fn row(&mut self) {
-        let row = (0..4).find_map(|_| self.tried()).unwrap_or(NOP);
+        self.row_of(Self::tried);
+    }
+
+    /// NOP where the program has no region that the rows tried need.
+    pub fn row_of(&mut self, tried: fn(&mut Self) -> Option<[u64; 9]>) {
+        let row = (0..4).find_map(|_| tried(self)).unwrap_or(NOP);
         self.tables.instructions.extend(row);
     }
 

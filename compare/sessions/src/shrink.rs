@@ -1,10 +1,15 @@
 //! The smallest call list that still differs: parts are taken away and words made plain as long as it does.
-use crate::list::{table_mut, Action, List};
+use crate::{
+    list::{table_mut, Action, List},
+    side::journal_length,
+};
+use plain::ENTRY;
 use tables::{ARGUMENT, EXTERN, INSTRUCTION, NODE, PARAMETER, REGION};
 
 pub fn shrink(mut list: List, differs: impl Fn(&List) -> bool) -> List {
     loop {
-        match candidates(&list).into_iter().find(|candidate| *candidate != list && differs(candidate)) {
+        let smaller = candidates(&list).find(|candidate| *candidate != list && differs(candidate));
+        match smaller {
             Some(candidate) => list = candidate,
             None => return list,
         }
@@ -18,80 +23,97 @@ const TABLES: [(usize, usize); 6] =
 /// Rows of a table, or words of a list, are tried one by one only up to so many.
 const FEW: usize = 40;
 
-fn candidates(list: &List) -> Vec<List> {
-    let mut candidates = fewer_actions(list);
-    candidates.extend(fewer_rows(list));
-    candidates.extend(less_lent(list));
-    candidates.extend(plainer_words(list));
-    candidates
+/// Made one after the other: all at once, those of a long list with long replies would fill the machine.
+type Candidates<'a> = Box<dyn Iterator<Item = List> + 'a>;
+
+fn candidates(list: &List) -> Candidates<'_> {
+    let smaller = fewer_actions(list).chain(fewer_steps(list)).chain(fewer_rows(list)).chain(less_lent(list));
+    Box::new(smaller.chain(plainer_actions(list)).chain(plainer_words(list)))
 }
 
 /// The list with each change made alone.
-fn changed<T>(list: &List, changes: impl IntoIterator<Item = T>, change: impl Fn(&mut List, T)) -> Vec<List> {
-    let one = |of| {
+fn changed<'a, T: 'a>(list: &'a List, changes: Vec<T>, change: impl Fn(&mut List, T) + 'a) -> Candidates<'a> {
+    Box::new(changes.into_iter().map(move |of| {
         let mut candidate = list.clone();
         change(&mut candidate, of);
         candidate
-    };
-    changes.into_iter().map(one).collect()
+    }))
 }
 
-fn fewer_actions(list: &List) -> Vec<List> {
-    let mut candidates = changed(list, parts(list.actions.len()), |l, part| drop(l.actions.drain(part)));
-    for (i, action) in list.actions.iter().enumerate() {
-        match action {
-            Action::Forward(reply) => {
-                let rows = parts(reply.len() / 4);
-                candidates.extend(changed(list, rows, |l, part| drain(reply_of(l, i), part, 4)));
-                candidates.extend(changed(list, plainer(reply), |l, (at, word)| reply_of(l, i)[at] = word));
-            }
-            Action::Position(position) => {
-                let nearer = nearer(*position);
-                candidates.extend(changed(list, nearer, |l, position| l.actions[i] = Action::Position(position)));
-            }
-            _ => {}
+fn fewer_actions(list: &List) -> Candidates<'_> {
+    changed(list, parts(list.actions.len()), |l, part| drop(l.actions.drain(part)))
+}
+
+fn fewer_steps(list: &List) -> Candidates<'_> {
+    changed(list, parts(list.tables.instructions.len() / INSTRUCTION), without_steps)
+}
+
+/// Instructions with the forwards that do them, if none was taken back, and with the entries that are counted for them: a
+/// journal that is just long enough, or just too short, stays so.
+fn without_steps(list: &mut List, steps: std::ops::Range<usize>) {
+    let before = journal_length(&list.tables);
+    drain(&mut list.tables.instructions, steps.clone(), INSTRUCTION);
+    let mut forwards = 0;
+    list.actions.retain(|action| {
+        let forward = matches!(action, Action::Forward(_));
+        forwards += usize::from(forward);
+        !(forward && steps.contains(&(forwards - 1)))
+    });
+    if let (Some(before), Some(after)) = (before, journal_length(&list.tables)) {
+        list.journal.truncate(list.journal.len().saturating_sub(ENTRY * (before - after)));
+    }
+}
+
+fn plainer_actions(list: &List) -> Candidates<'_> {
+    let actions = list.actions.iter().enumerate().flat_map(move |(i, action)| plainer_action(list, i, action));
+    Box::new(actions.chain(changed(list, nearer(list.position), |l, position| l.position = position)))
+}
+
+fn plainer_action<'a>(list: &'a List, i: usize, action: &Action) -> Candidates<'a> {
+    match action {
+        Action::Forward(reply) => {
+            let rows = changed(list, parts(reply.len() / 4), move |l, part| drain(reply_of(l, i), part, 4));
+            Box::new(rows.chain(changed(list, plainer(reply), move |l, (at, word)| reply_of(l, i)[at] = word)))
+        }
+        Action::Position(position) => {
+            changed(list, nearer(*position), move |l, position| l.actions[i] = Action::Position(position))
+        }
+        _ => Box::new(std::iter::empty()),
+    }
+}
+
+fn fewer_rows(list: &List) -> Candidates<'_> {
+    let rows = TABLES.iter().flat_map(move |&(table, width)| {
+        let rows = parts(table_mut(&mut list.tables.clone(), table).len() / width);
+        changed(list, rows, move |l, part| drain(table_mut(&mut l.tables, table), part, width))
+    });
+    let first = if list.tables.instructions.len() >= INSTRUCTION { vec![()] } else { Vec::new() };
+    Box::new(rows.chain(changed(list, first, |l, ()| without_first(l))))
+}
+
+/// The first instruction taken away, with every position moved.
+fn without_first(list: &mut List) {
+    drain(&mut list.tables.instructions, 0..1, INSTRUCTION);
+    list.position[0] = list.position[0].saturating_sub(1);
+    for action in &mut list.actions {
+        if let Action::Position(position) = action {
+            position[0] = position[0].saturating_sub(1);
         }
     }
-    candidates.extend(changed(list, nearer(list.position), |l, position| l.position = position));
-    candidates
 }
 
-fn fewer_rows(list: &List) -> Vec<List> {
-    let mut candidates = Vec::new();
-    for (table, width) in TABLES {
-        let rows = parts(table_mut(&mut list.tables.clone(), table).len() / width);
-        candidates.extend(changed(list, rows, |l, part| drain(table_mut(&mut l.tables, table), part, width)));
-    }
-    // The first instruction, with every position moved.
-    if list.tables.instructions.len() >= INSTRUCTION {
-        candidates.extend(changed(list, [0..1], |l, part| {
-            drain(&mut l.tables.instructions, part, INSTRUCTION);
-            l.position[0] = l.position[0].saturating_sub(1);
-            for action in &mut l.actions {
-                if let Action::Position(position) = action {
-                    position[0] = position[0].saturating_sub(1);
-                }
-            }
-        }));
-    }
-    candidates
+fn less_lent(list: &List) -> Candidates<'_> {
+    let journal = changed(list, parts(list.journal.len() / ENTRY), |l, part| drain(&mut l.journal, part, ENTRY));
+    Box::new(journal.chain(changed(list, parts(list.memory.len()), |l, part| drain(&mut l.memory, part, 1))))
 }
 
-fn less_lent(list: &List) -> Vec<List> {
-    let mut candidates = changed(list, parts(list.journal.len() / 3), |l, part| drain(&mut l.journal, part, 3));
-    candidates.extend(changed(list, parts(list.memory.len()), |l, part| drain(&mut l.memory, part, 1)));
-    candidates
-}
-
-fn plainer_words(list: &List) -> Vec<List> {
-    let mut candidates = Vec::new();
-    for (table, _) in TABLES {
+fn plainer_words(list: &List) -> Candidates<'_> {
+    let tables = TABLES.iter().flat_map(move |&(table, _)| {
         let words = plainer(table_mut(&mut list.tables.clone(), table));
-        candidates.extend(changed(list, words, |l, (at, word)| table_mut(&mut l.tables, table)[at] = word));
-    }
-    candidates.extend(changed(list, plainer(&list.memory), |l, (at, word)| l.memory[at] = word));
-    candidates.extend(changed(list, plainer(&list.journal), |l, (at, word)| l.journal[at] = word));
-    candidates
+        changed(list, words, move |l, (at, word)| table_mut(&mut l.tables, table)[at] = word)
+    });
+    let memory = changed(list, plainer(&list.memory), |l, (at, word)| l.memory[at] = word);
+    Box::new(tables.chain(memory).chain(changed(list, plainer(&list.journal), |l, (at, word)| l.journal[at] = word)))
 }
 
 /// Positions with one number half as big or one less.

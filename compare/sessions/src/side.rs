@@ -1,11 +1,13 @@
 //! A machine with what was lent to it.
 use crate::list::{Action, List};
+use plain::Plain;
 use tables::{blanks, Session, Tables};
 
 /// Words on either side of a lent buffer that no call may touch.
 const GUARD: usize = 4;
 
-/// The type error's words before a call.
+/// Out-arrays before a call, with words that none gives: what a refusal must not write is seen to be as it was.
+const NO_ENTRIES: [u64; 1] = [0xEEEE];
 const NO_ERROR: [u64; 6] = [0xE; 6];
 
 pub struct Side<'a> {
@@ -14,6 +16,7 @@ pub struct Side<'a> {
     memory: Vec<u64>,
     journal: Vec<u64>,
     pub position: [u64; 2],
+    pub entries: [u64; 1],
     error: [u64; 6],
 }
 
@@ -29,7 +32,7 @@ fn lent(words: &mut [u64]) -> &mut [u64] {
 impl<'a> Side<'a> {
     pub fn new(machine: &'a dyn Session, list: &List) -> Self {
         let (memory, journal) = (guarded(&list.memory), guarded(&list.journal));
-        Side { machine, memory, journal, position: list.position, error: NO_ERROR }
+        Side { machine, memory, journal, position: list.position, entries: NO_ENTRIES, error: NO_ERROR }
     }
 
     pub fn memory(&self) -> &[u64] {
@@ -44,8 +47,9 @@ impl<'a> Side<'a> {
     pub fn act(&mut self, tables: &Tables, action: &Action) -> Option<u64> {
         let (memory, journal) = (lent(&mut self.memory), lent(&mut self.journal));
         let position = &mut self.position;
-        self.error = NO_ERROR;
+        (self.entries, self.error) = (NO_ENTRIES, NO_ERROR);
         match action {
+            Action::JournalLength => Some(self.machine.journal_length(tables, &mut self.entries, &mut self.error)),
             Action::Open => Some(self.machine.open(tables, memory, journal, position, &mut self.error)),
             Action::Forward(reply) => Some(self.machine.forward(tables, memory, journal, position, reply)),
             Action::Back => Some(self.machine.back(tables, memory, journal, position)),
@@ -68,10 +72,18 @@ impl<'a> Side<'a> {
     /// The first word in which the library's side differs.
     pub fn differs(&self, library: &Side) -> Option<String> {
         words("position", &self.position, &library.position, 0)
+            .or_else(|| words("entries", &self.entries, &library.entries, 0))
             .or_else(|| words("type error", &self.error, &library.error, 0))
             .or_else(|| words("memory", &self.memory, &library.memory, GUARD))
             .or_else(|| words("journal", &self.journal, &library.journal, GUARD))
     }
+}
+
+/// The sum that 02 counts for a program that open accepts.
+pub fn journal_length(tables: &Tables) -> Option<usize> {
+    let mut entries = NO_ENTRIES;
+    let number = Plain.journal_length(tables, &mut entries, &mut [0; 6]);
+    (number == 0).then(|| entries[0] as usize)
 }
 
 fn set(words: &mut [u64], at: usize, word: u64) {
