@@ -114,6 +114,9 @@ class Script:
         self.passed = shown[0]
         return shown
 
+    def journal_length(self):
+        return self.call('journal_length', 'e', lambda memory, journal: session.journal_length(self.tables))
+
     def open(self):
         def play(memory, journal):
             return self.moved(session.open_session(self.tables, memory, journal))

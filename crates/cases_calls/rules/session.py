@@ -1,9 +1,10 @@
-"""Open, forward and back on lent memory and journal."""
+"""The journal's length for a program; open, forward and back on lent memory and journal."""
 from .calls import resolve
 from .check import type_error
+from .kept import loaded
 from .machine import outcome
 from .outcome import TypeErrors, need
-from .tables import CALL, OTHER, decoded, load
+from .tables import CALL, EXCHANGE, FRAME, OTHER
 
 CELL_LIMIT, ENTRY_LIMIT = 4096, 2048
 OTHER_INSTRUCTION = 1
@@ -13,14 +14,17 @@ def cell_count(tables):
     return sum(region.length for region in tables.regions)
 
 
+def sized(words):
+    """The decoded tables, after the refusals 1, 2, 3 and 10."""
+    tables = loaded(words)
+    need(cell_count(tables) <= CELL_LIMIT, 10)
+    return tables
+
+
 def prepare(words, memory, journal):
     """The decoded tables, after the refusals 1, 2, 3, 10 and 4."""
-    refusal = load(words)
-    need(refusal == 0, refusal)
-    tables = decoded(words)
-    cells = cell_count(tables)
-    need(cells <= CELL_LIMIT, 10)
-    need(len(memory) >= 2 * cells and len(journal) % 3 == 0 and len(journal) <= 3 * ENTRY_LIMIT, 4)
+    tables = sized(words)
+    need(len(memory) >= 2 * cell_count(tables) and len(journal) % 3 == 0 and len(journal) <= 3 * ENTRY_LIMIT, 4)
     return tables
 
 
@@ -28,9 +32,8 @@ def is_other(row):
     return row.family == OTHER and row.operator == OTHER_INSTRUCTION
 
 
-def open_session(words, memory, journal):
-    """The first position; memory's cells are zeroed."""
-    tables = prepare(words, memory, journal)
+def accept(tables):
+    """The refusals 5, 9, and 6, 7, 8 by row."""
     error = type_error(tables)
     if error:
         raise TypeErrors(error)
@@ -38,6 +41,23 @@ def open_session(words, memory, journal):
     for row in tables.instructions:
         if row.family == CALL:
             resolve(tables, row)
+
+
+# "1 entry for NOP and frame rows, 3 for EXCHANGE, 65 for CALL"; of its family NOP alone is accepted.
+COUNTED = {OTHER: 1, FRAME: 1, EXCHANGE: 3, CALL: 65}
+
+
+def journal_length(words):
+    """The sum, with "2 for every other row"; "a program that open would turn down gets open's number, buffers apart"."""
+    tables = sized(words)
+    accept(tables)
+    return sum(COUNTED.get(row.family, 2) for row in tables.instructions),
+
+
+def open_session(words, memory, journal):
+    """The first position; memory's cells are zeroed."""
+    tables = prepare(words, memory, journal)
+    accept(tables)
     cells = [word for region in tables.regions for _ in range(region.length) for word in (region.kind, 0)]
     memory[:len(cells)] = cells
     return 0, 0

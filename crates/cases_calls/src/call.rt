@@ -22,6 +22,7 @@ fn play(
     place: &mut [u64; 1],
 ) {
     match sign {
+        b'e' => steps::journal_length(tables, &mut [UNWRITTEN; 1], &mut [UNWRITTEN; 6]),
         b'o' => steps::open(tables, memory, journal, position, &mut [UNWRITTEN; 6]),
         b'f' => steps::forward(tables, memory, journal, position),
         b'b' => steps::back(tables, memory, journal, position),

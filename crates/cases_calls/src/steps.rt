@@ -1,4 +1,4 @@
-// A session's calls, through their C forms. A refusal keeps the position, which is written either way.
+// A session's calls, and the journal's length before one, through their C forms. A refusal keeps the position, which is written either way.
 use crate::lent::ARGUMENTS;
 use crate::lent::EXTERNS;
 use crate::lent::GIVEN;
@@ -11,7 +11,24 @@ use crate::print::answered;
 use crate::print::written;
 use console_c::back::console_back;
 use console_c::forward::console_forward;
+use console_c::journal_length::console_journal_length;
 use console_c::open::console_open;
+
+pub fn journal_length(tables: &[u64], entries: &mut [u64; 1], error: &mut [u64; 6]) {
+    let number = console_journal_length(
+        words_of(tables, REGIONS),
+        words_of(tables, EXTERNS),
+        words_of(tables, PARAMETERS),
+        words_of(tables, NODES),
+        words_of(tables, ARGUMENTS),
+        words_of(tables, INSTRUCTIONS),
+        entries,
+        error,
+    );
+    answered(b"journal_length", number);
+    written(entries);
+    written(error);
+}
 
 pub fn open(
     tables: &[u64],
