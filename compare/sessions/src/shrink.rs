@@ -23,7 +23,7 @@ const TABLES: [(usize, usize); 6] =
 /// Rows of a table, or words of a list, are tried one by one only up to so many.
 const FEW: usize = 40;
 
-/// Made one after the other: all at once, those of a long list with long replies would fill the machine.
+/// Made one after the other: those of a long list with long replies are too many to hold.
 type Candidates<'a> = Box<dyn Iterator<Item = List> + 'a>;
 
 fn candidates(list: &List) -> Candidates<'_> {
