@@ -58,7 +58,7 @@ quick() {
     step "the tests of bindings/, with std and without" rust_tests
     step "the Rust session of at most 60 lines, built as its page says, writes its step.expected" rust_example
     step "a short comparison with quil-rs differs nowhere" comparison
-    step "20,000 call lists differ nowhere and reach every refusal" call_lists
+    step "20,000 call lists differ nowhere and reach all that they must" call_lists
     step "each wrong copy's line is in its file" wrong_copies
     step "damaged example files are read as docs/FORMAT.md says, and a refusal 1, 2 or 3 lies where it is told" damaged_files
     exit $missed

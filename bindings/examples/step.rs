@@ -25,8 +25,7 @@ fn main() -> Result<(), Refusal> {
     let call = program.call(F, &[n(0).into(), n(1).into()]);
     check(&program.tables())?;
 
-    // This memory fits every program. The journal is enough for every order of keys, unless that takes more entries
-    // than the longest has.
+    // A memory for every program; a journal for every order of keys, as far as there is one.
     let entries = journal_length(&program.tables())?.min(sizes::ENTRY_LIMIT);
     let (mut memory, mut journal) = ([0; sizes::MEMORY_WORDS], vec![0; entries * sizes::ENTRY_WIDTH]);
     let mut session = Session::open(program.tables(), &mut memory, &mut journal)?;

@@ -340,10 +340,11 @@ uint64_t console_references(const uint64_t *nodes, size_t nodes_length, uint64_t
 
 /* How many journal entries are enough: 1, 2, 3, 10, 5, 9, then 6, 7, 8 by row, as console_open
  * without its buffers. entries on 0: the sum over all rows, 1 for NOP and a frame, 3 for EXCHANGE,
- * 65 for a CALL, 2 for any other. After an accepted console_open, where nothing else writes the
- * session, no more entries are ever in use, and with a journal of at least so many no
- * console_forward is 13. The sum may be above 2,048, the most that console_open takes: then 13 may
- * come with some keys and replies. error on 5, as console_check. */
+ * 65 for a CALL, 2 for any other; a journal of n entries is CONSOLE_ENTRY_WIDTH * n words. After an
+ * accepted console_open, where nothing else writes the session, no more entries are ever in use,
+ * and with a journal of at least so many no console_forward is 13. The sum may be above 2,048, the
+ * most that console_open takes: then 13 may come with some keys and replies. error on 5, as
+ * console_check. */
 uint64_t console_journal_length(CONSOLE_TABLES, uint64_t entries[1],
                                 uint64_t error[CONSOLE_TYPE_ERROR_WIDTH]);
 

@@ -7,7 +7,6 @@ from .calls import F, call_tables
 from .lists import row_at
 from .opens import layout, opened, program
 from .quil import operators
-from .script import marked
 from .worked import said
 
 # Operands, and what is counted for a row. One row of each after the other runs to the end, with a CALL before the NOP.

@@ -51,7 +51,7 @@ def journal_length(words):
     """The sum, with "2 for every other row"; "a program that open would turn down gets open's number, buffers apart"."""
     tables = sized(words)
     accept(tables)
-    return sum(COUNTED.get(row.family, 2) for row in tables.instructions),
+    return (sum(COUNTED.get(row.family, 2) for row in tables.instructions),)
 
 
 def open_session(words, memory, journal):

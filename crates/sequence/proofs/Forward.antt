@@ -31,7 +31,7 @@ use Rattle.sequence.specs.Calls.{ofStep, numberOf}
 use Rattle.sequence.specs.Replay.{Machine, State, made, cellsAfter, writesAfter, usedAfter, rowAt, cellsAt, usedAt, positionAt, replayLook, replayed, stepAnswer, nextState}
 use Rattle.sequence.specs.Journal.{journalAfter, journalAt}
 use Rattle.sequence.specs.Claim.{Spared}
-use Rattle.sequence.proofs.Looks.{Steps, steps, row-refused, same-look}
+use Rattle.sequence.proofs.Looks.{Steps, steps, refused-by-row, same-look}
 use Rattle.sequence.proofs.Reached.{length-journal, journal-parted, count, rows, Started, Within, typed-after, good-after, cells-taken, past-left, held-among, spent, prepared-at, position-fits}
 
 -- "its reply joins the history"
@@ -120,20 +120,20 @@ module _ {M : Machine} {past : List ℕ} (started : Started M past) where
 
   -- ---- a number that its looks do not give is not its answer
 
-  unmet-by : (k : ℕ) → (0 ≡ k → ⊥) → (s : State) (reply : List ℕ) → (replayLook M s reply ≡ refuse k → ⊥) → (o : Outcome (List Write)) → replayLook M s reply ≡ o
+  unanswered-by : (k : ℕ) → (0 ≡ k → ⊥) → (s : State) (reply : List ℕ) → (replayLook M s reply ≡ refuse k → ⊥) → (o : Outcome (List Write)) → replayLook M s reply ≡ o
       → numberOf (ofStep (stepAnswer M s (joins s reply o))) ≡ k → ⊥
   unfolding _>>=_
-  unmet-by k some s reply never (ok ws) e = some
-  unmet-by k some s reply never (refuse n) e = λ z. never (e ∙ ap refuse z)
+  unanswered-by k some s reply never (ok ws) e = some
+  unanswered-by k some s reply never (refuse n) e = λ z. never (e ∙ ap refuse z)
 
-  pub forward-unmet : (k : ℕ) → (0 ≡ k → ⊥) → (s : State) (reply : List ℕ) → (replayLook M s reply ≡ refuse k → ⊥)
+  pub forward-unanswered : (k : ℕ) → (0 ≡ k → ⊥) → (s : State) (reply : List ℕ) → (replayLook M s reply ≡ refuse k → ⊥)
       → numberOf (ofStep (stepAnswer M s (joins s reply (replayLook M s reply)))) ≡ k → ⊥
-  forward-unmet k some s reply never = unmet-by k some s reply never (replayLook M s reply) refl
+  forward-unanswered k some s reply never = unanswered-by k some s reply never (replayLook M s reply) refl
 
   -- "No call in it met an operand without a rule"
   pub forward-ruled : (s : State) (reply : List ℕ) → length (s .history) ≤ rows M → replayLook M s reply ≡ refuse noRule → ⊥
   forward-ruled s reply l e =
-      let r = row-refused M (started .prepared) s reply noRule (omega arith) (λ ws l o full. omega arith) e in
+      let r = refused-by-row M (started .prepared) s reply noRule (omega arith) (λ ws l o full. omega arith) e in
       started .sound .ruled (cellsAt M s) (rowAt M s) reply (typed-after started (s .history) l) (r .row) (r .outcome-is)
 
   -- ---- "a CALL changed only cells of regions in its write set"

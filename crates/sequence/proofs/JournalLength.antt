@@ -1,6 +1,6 @@
 -- A journal of the length that is counted is never full: of the replay machine's steps each uses no more entries than are counted for its row. Assumes nothing.
 use Prim.Native.Nat.{ℕ, _+_, _<_, _≤_}
-use mathlib.Core.Bool.{Bool, true, false, false≢true}
+use mathlib.Core.Bool.{false≢true}
 use mathlib.Core.List.{List, [], _∷_}
 use mathlib.Core.Path.{_≡_, refl, sym, ap, _∙_, subst}
 use native.Mathlib.Omega.{arith}
@@ -11,7 +11,7 @@ use Rattle.tables.specs.Family as family
 use Rattle.tables.specs.Refusal.{journalFull}
 use Rattle.tables.specs.Outcome.{Outcome, ok, refuse}
 use Rattle.tables.specs.Tables.{Tables}
-use Rattle.tables.specs.Rows.{instructionRows, instructionAt}
+use Rattle.tables.specs.Rows.{instructionAt}
 use Rattle.tables.proofs.Cases.{by-key, past-keys}
 use Rattle.journal.specs.declared.cells.Write.{Write}
 use Rattle.journal.specs.Each.{Each}
@@ -30,7 +30,7 @@ use Rattle.sequence.specs.Calls.{Call, Session}
 use Rattle.sequence.specs.Replay.{Machine, History, State, fresh, made, rowAfter, cellsAfter, writesAfter, usedAfter, rowAt, cellsAt, usedAt, replayLook}
 use Rattle.sequence.specs.JournalLength.{NotFull, Enough}
 use Rattle.sequence.proofs.Opened.{Accepts}
-use Rattle.sequence.proofs.Looks.{row-refused}
+use Rattle.sequence.proofs.Looks.{refused-by-row}
 use Rattle.sequence.proofs.Reached.{rows, Started, typed-after}
 use Rattle.sequence.proofs.Sequence.{none-answers, machine, past, started, begins, state, same, ended, within}
 
@@ -109,9 +109,9 @@ module _ (M : Machine) (laid : Laid (M .tables .regions)) where
     -- no row is refused with it, and there is room for what one writes
     never-full : {past : List ℕ} → Started M past → length (s .history) ≤ rows M → replayLook M s reply ≡ refuse journalFull → ⊥
     never-full started l e =
-        let r = row-refused M (started .prepared) s reply journalFull (omega arith)
+        let r = refused-by-row M (started .prepared) s reply journalFull (omega arith)
         (λ ws h o full z. false≢true (sym full ∙ le-leb (usedAt M s + (length ws + 1)) (entriesOf (M .journalWords)) (room ws h o))) e in
-        started .sound .roomy (cellsAt M s) (rowAt M s) reply (typed-after started (s .history) l) (r .row) (r .outcome-is)
+        started .sound .journal-apart (cellsAt M s) (rowAt M s) reply (typed-after started (s .history) l) (r .row) (r .outcome-is)
 
 -- ---- after an accepted open
 

@@ -20,7 +20,7 @@ use Rattle.session_forward.specs.Forward.{stepLook}
 use Rattle.sequence.specs.Replay.{Machine, State, rowAt, cellsAt, usedAt, positionAt, looksFirst, replayLook}
 
 -- a refusal k of a look that is not refused with k itself
-passed-over : {B : Type 0} (b : Bool) (n k : ℕ) (s : Outcome B) → (n ≡ k → ⊥) → (need b n >> s) ≡ refuse k → (b ≡ true) × (s ≡ refuse k)
+pub passed-over : {B : Type 0} (b : Bool) (n k : ℕ) (s : Outcome B) → (n ≡ k → ⊥) → (need b n >> s) ≡ refuse k → (b ≡ true) × (s ≡ refuse k)
 unfolding _>>_ need
 passed-over true n k s ne e = (refl, e)
 passed-over false n k s ne e = absurd (ne (cc))
@@ -87,9 +87,9 @@ module _ (M : Machine) {n : ℕ} (prepared : looksFirst M ≡ ok n) (s : State) 
       at false r e = full r (cc)
 
   -- a number that is not 11, nor 13 for want of room, is the row's
-  pub row-refused : (k : ℕ) → (atEnd ≡ k → ⊥) → ((ws : List Write) → rowAt M s < instructionRows (M .tables .instructions) → outcome ≡ ok ws → room ws ≡ false → journalFull ≡ k → ⊥)
+  pub refused-by-row : (k : ℕ) → (atEnd ≡ k → ⊥) → ((ws : List Write) → rowAt M s < instructionRows (M .tables .instructions) → outcome ≡ ok ws → room ws ≡ false → journalFull ≡ k → ⊥)
       → replayLook M s reply ≡ refuse k → RowRefused k
-  row-refused k ended full e =
+  refused-by-row k ended full e =
       let (here-is, e₁) = passed-over here atEnd k _ ended (sym look-is ∙ e) in
       let l = ltb-true (rowAt M s) (instructionRows (M .tables .instructions)) here-is in
       record { row = l; outcome-is = bound-over outcome _ k (λ ws o. room-over k ws (full ws l o)) e₁ }

@@ -25,7 +25,7 @@ use Rattle.sequence.specs.Journal.{stacked, stepsAfter, journalAfter, jo
 use Rattle.sequence.specs.Claim.{Ruled, Framed, Faithful}
 use Rattle.sequence.proofs.Opened.{Accepts}
 use Rattle.sequence.proofs.Reached.{length-journal, journal-parted, rows, Started, sessionAt, Within, typed-after, cells-taken}
-use Rattle.sequence.proofs.Forward.{forwarded, forward-leaves, forward-unmet, forward-ruled, forward-kept}
+use Rattle.sequence.proofs.Forward.{forwarded, forward-leaves, forward-unanswered, forward-ruled, forward-kept}
 use Rattle.sequence.proofs.Back.{none-dropped, back-none, last-dropped, back-last, back-within}
 
 module _ {M : Machine} {past : List ℕ} (started : Started M past) where
@@ -109,19 +109,19 @@ module _ {M : Machine} {past : List ℕ} (started : Started M past) where
 
   module _ (k : ℕ) (some : 0 ≡ k → ⊥) (last : nothingToTakeBack ≡ k → ⊥)
       (never : (s : State) (reply : List ℕ) → length (s .history) ≤ rows M → replayLook M s reply ≡ refuse k → ⊥) where
-    unmet-back : (h : History) → numberOf (replayAnswer M back (record { history = h })) ≡ k → ⊥
-    unmet-back [] = rw (none-dropped started) last
-    unmet-back (reply ∷ h) = rw (last-dropped started reply h) some
+    back-unanswered : (h : History) → numberOf (replayAnswer M back (record { history = h })) ≡ k → ⊥
+    back-unanswered [] = rw (none-dropped started) last
+    back-unanswered (reply ∷ h) = rw (last-dropped started reply h) some
 
-    unmet : (c : Call) (s : State) → length (s .history) ≤ rows M → numberOf (replayAnswer M c s) ≡ k → ⊥
+    unanswered : (c : Call) (s : State) → length (s .history) ≤ rows M → numberOf (replayAnswer M c s) ≡ k → ⊥
     unfolding replayed
-    unmet (forward reply) s l = forward-unmet started k some s reply (never s reply l)
-    unmet back s l = unmet-back (s .history)
+    unanswered (forward reply) s l = forward-unanswered started k some s reply (never s reply l)
+    unanswered back s l = back-unanswered (s .history)
 
     pub none-answers : (cs : List Call) (s : State) (rest : List ℕ) → Within M s rest → Each (λ a. numberOf a ≡ k → ⊥) (replayAnswers M cs s)
     unfolding replayAnswers
     none-answers [] s rest w = none
-    none-answers (c ∷ cs) s rest w = let f = follows c s rest w in also (unmet c s (w .steps)) (none-answers cs (replayNext M c s) (f .rest′) (f .within))
+    none-answers (c ∷ cs) s rest w = let f = follows c s rest w in also (unanswered c s (w .steps)) (none-answers cs (replayNext M c s) (f .rest′) (f .within))
 
   -- what is laid out at a state: cells of the declared kinds, and the entries of its steps
   pub typed-at : (s : State) (rest : List ℕ) → Within M s rest → Typed (M .tables .regions) (take (2 * cellCount (M .tables .regions)) (sessionAt M past s rest .memory))

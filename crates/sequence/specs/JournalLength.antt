@@ -1,4 +1,5 @@
 -- 02, P2: what is claimed of a journal's length after an accepted open. To be read without the proofs; Top.antt in proofs/ has the theorem.
+-- The quoted sentences are 02's.
 use mathlib.Core.Path.{_≡_}
 use mathlib.Core.List.{List}
 use Prim.Native.Nat.{ℕ, _^_, _<_, _≤_}
@@ -16,7 +17,7 @@ use Rattle.session_length.specs.declared.length.LengthAnswer.the-variants.{Entr
 use Rattle.sequence.specs.Calls.{Call, Answer, numberOf, answers}
 use Rattle.sequence.specs.Claim.{session, ending}
 
--- "meets refusal 13"
+-- an answer that is not "refusal 13"
 abbrev pub NotFull : Answer → Type 0
 NotFull a = numberOf a ≡ journalFull → ⊥
 

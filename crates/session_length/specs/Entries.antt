@@ -17,7 +17,7 @@ entriesByFamily =
 
 -- what is counted for a row, by its family
 unfoldable pub entriesFor : ℕ → ℕ
-entriesFor family = caseOf family entriesByFamily 2
+entriesFor f = caseOf f entriesByFamily 2
 
 -- the sum over the rows before a row
 unfoldable pub entriesBefore : List ℕ → ℕ → ℕ

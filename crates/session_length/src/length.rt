@@ -1,4 +1,4 @@
-// The public call: how many journal entries every order of keys finds enough. No buffer is lent, so none is looked at.
+// The public call: how many journal entries are enough for every order of keys. No buffer is lent, so none is looked at.
 ghost use mathlib.Core.Path.{_≡_};
 ghost use Rattle.tables.specs.Tables.{tablesOf};
 ghost use Rattle.session_length.specs.Length.{lengthTables};

@@ -94,6 +94,6 @@ module _ (t : Tables) (checked : Checked t) where
   sound = record {
     starts = zeros-typed (t .regions) fit;
     ruled = λ cells row reply typed h. row-unmet cells typed row h reply noRule refl;
-    roomy = λ cells row reply typed h. row-unmet cells typed row h reply journalFull refl;
+    journal-apart = λ cells row reply typed h. row-unmet cells typed row h reply journalFull refl;
     good = λ cells row reply ws typed h. row-good cells typed row h reply ws;
   }

@@ -47,7 +47,7 @@ pub record Sound (t : Tables) : Type 0 where
   pub ruled : (cells : List ℕ) (row : ℕ) (reply : List ℕ) → Typed (t .regions) cells → row < instructionRows (t .instructions)
       → outcomeAt t cells row reply ≡ refuse noRule → ⊥
   -- "13 journal full" is a look of the session, no row's own
-  pub roomy : (cells : List ℕ) (row : ℕ) (reply : List ℕ) → Typed (t .regions) cells → row < instructionRows (t .instructions)
+  pub journal-apart : (cells : List ℕ) (row : ℕ) (reply : List ℕ) → Typed (t .regions) cells → row < instructionRows (t .instructions)
       → outcomeAt t cells row reply ≡ refuse journalFull → ⊥
   pub good : (cells : List ℕ) (row : ℕ) (reply : List ℕ) (ws : List journal.Write) → Typed (t .regions) cells → row < instructionRows (t .instructions)
       → outcomeAt t cells row reply ≡ ok ws → Each (GoodWrite t (instructionAt (t .instructions) row)) ws

@@ -18,7 +18,8 @@ pub fn help() {
         q        quit\n\
         A reply's row is: argument, offset, value. An empty line ends the reply.\n\
         A change stands beside its cell: old -> new. After .. the key m shows the rest.\n\
-        N always suffice: a journal of N entries is never full, in any order of keys.\n",
+        N always suffice: a journal of N entries is never full, in any order of keys.\n\
+        no length is sure: the rows count more entries than a journal can have.\n",
     );
 }
 

@@ -1,4 +1,3 @@
-use Prim.Native.Nat.{ℕ}
 use mathlib.Core.Path.{_≡_, sym, ap, _∙_}
 use Rattle.tables.specs.Outcome.{ok, seen}
 use Rattle.tables.specs.Tables.{Tables, tablesOf}
