@@ -1,4 +1,5 @@
 pub mod Check
+pub mod Frame
 pub mod Resolve
 pub mod Access
 pub mod Reference

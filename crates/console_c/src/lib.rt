@@ -3,6 +3,7 @@ pub mod access;
 pub mod back;
 pub mod check;
 pub mod forward;
+pub mod frame;
 pub mod journal_length;
 pub mod open;
 pub mod reference;

@@ -50,10 +50,14 @@ abbrev pub atPlace : ℕ → NodeVerdict → TreeVerdict
 atPlace place Real = AllReal
 atPlace place (Fails e) = FailsAt place e
 
--- of the n nodes from a place on of the tree whose first row is `root`
+-- the node at a place of the tree whose first row is `root`
+abbrev pub verdictThere : List ℕ → List ℕ → ℕ → ℕ → NodeVerdict
+verdictThere regions nodes root place = nodeVerdict regions (nodeAt nodes (root + place))
+
+-- of its n nodes from a place on
 abbrev pub treeFrom : List ℕ → List ℕ → ℕ → ℕ → ℕ → TreeVerdict
 treeFrom regions nodes root place n =
-    first (λ k. isFailure (nodeVerdict regions (nodeAt nodes (root + k)))) (λ k. atPlace k (nodeVerdict regions (nodeAt nodes (root + k)))) AllReal place n
+    first (λ k. isFailure (verdictThere regions nodes root k)) (λ k. atPlace k (verdictThere regions nodes root k)) AllReal place n
 
 -- "left before right": the first failing node in row order, with its place in the tree
 unfoldable pub treeVerdict : List ℕ → List ℕ → ℕ → ℕ → TreeVerdict

@@ -1,3 +1,4 @@
 pub mod Frame
+pub mod Looked
 pub mod Check
 pub mod Names

@@ -5,7 +5,8 @@ ghost use Prim.Native.Nat.{_+_, _<_, _≤_};
 ghost use Rattle.tables.specs.Rows.{nodeRows};
 ghost use Rattle.type_rules.specs.Judgement.{verdictAt};
 ghost use Rattle.type_rules.specs.Codes.{codeOf};
-ghost use Rattle.type_check.specs.Frame.{addressRule, numberVerdict, nodeVerdict, treeVerdict, nodeFault, frameRule};
+ghost use Rattle.type_check.specs.Frame.{addressRule, numberVerdict, nodeVerdict, nodeFault};
+ghost use Rattle.type_check.specs.Looked.{treeCheck, frameCheck};
 use reals::real::above_epsilon;
 use tables::lookup::Found;
 use tables::lookup::lookup_region;
@@ -74,20 +75,33 @@ fn should_be_real(regions: &[u64], node: Node) -> NodeVerdict
     }
 }
 
-// The first failing node of the `count` rows from `first` on: left before right is row order.
-fn check_tree(regions: &[u64], nodes: &[u64], first: usize, count: usize) -> TreeVerdict
+// What was found, and how many nodes were looked at.
+pub struct TreeCheck {
+    pub verdict: TreeVerdict,
+    pub looked: u64,
+}
+
+// The first failing node of the `count` rows from `first` on, left before right being row order; the nodes after it are not looked at.
+fn check_tree(regions: &[u64], nodes: &[u64], first: usize, count: usize) -> TreeCheck
     requires { ⌜ first + count ≤ nodeRows (now nodes) ⌝ }
-    ensures { λ r. ⌜ r ≡ treeVerdict (now (regions .entry)) (now (nodes .entry)) first count ⌝ }
+    ensures { λ r. ⌜ r ≡ treeCheck (now (regions .entry)) (now (nodes .entry)) first count ⌝ }
 {
-    let mut place = 0;
-    while place < count {
+    let mut looked = 0;
+    while looked < count {
+        let place = looked;
         let verdict = should_be_real(regions, node_at(nodes, first + place));
+        looked += 1;
         if let NodeVerdict::Fails(error) = verdict {
-            return TreeVerdict::FailsAt(place as u64, error);
+            return TreeCheck {
+                verdict: TreeVerdict::FailsAt(place as u64, error),
+                looked: looked as u64,
+            };
         }
-        place += 1;
     }
-    TreeVerdict::AllReal
+    TreeCheck {
+        verdict: TreeVerdict::AllReal,
+        looked: looked as u64,
+    }
 }
 
 fn node_error(row: u64, spot: u64, error: NodeError) -> Verdict
@@ -99,14 +113,31 @@ fn node_error(row: u64, spot: u64, error: NodeError) -> Verdict
     }
 }
 
-pub fn check_frame(regions: &[u64], nodes: &[u64], row: u64, x: Instruction) -> Verdict
+// A frame's verdict, and how many nodes of its expression were looked at.
+pub struct FrameCheck {
+    pub verdict: Verdict,
+    pub looked: u64,
+}
+
+pub fn check_frame(regions: &[u64], nodes: &[u64], row: u64, x: Instruction) -> FrameCheck
     requires { ⌜ x .«first_name» + x .«first_index» ≤ nodeRows (now nodes) ⌝ }
-    ensures { λ r. ⌜ r ≡ verdictAt row (frameRule (now (regions .entry)) (now (nodes .entry)) x) ⌝ }
+    ensures { λ r. ⌜ r ≡ frameCheck (now (regions .entry)) (now (nodes .entry)) row x ⌝ }
 {
-    let first = x.first_name as usize;
-    let count = x.first_index as usize;
-    let TreeVerdict::FailsAt(place, error) = check_tree(regions, nodes, first, count) else {
-        return Verdict::Accepted;
+    let tree = check_tree(
+        regions,
+        nodes,
+        x.first_name as usize,
+        x.first_index as usize,
+    );
+    let verdict = tree.verdict;
+    let TreeVerdict::FailsAt(place, error) = verdict else {
+        return FrameCheck {
+            verdict: Verdict::Accepted,
+            looked: tree.looked,
+        };
     };
-    node_error(row, NODE + place, error)
+    FrameCheck {
+        verdict: node_error(row, NODE + place, error),
+        looked: tree.looked,
+    }
 }

@@ -31,7 +31,7 @@ fn check_row(regions: &[u64], nodes: &[u64], row: u64, x: Instruction) -> Verdic
         family::EXCHANGE => type_check_exchange(regions, row, x),
         family::LOAD => type_check_load(regions, row, x),
         family::STORE => type_check_store(regions, row, x),
-        family::FRAME => check_frame(regions, nodes, row, x),
+        family::FRAME => check_frame(regions, nodes, row, x).verdict,
         _ => Verdict::Accepted,
     }
 }

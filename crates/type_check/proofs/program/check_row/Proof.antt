@@ -1,8 +1,9 @@
-use mathlib.Core.Path.{refl}
+use mathlib.Core.Path.{refl, ap}
 use borrow.Author.Needs.{needs}
 use Rattle.tables.specs.Cases.{caseOf}
 use Rattle.type_rules.specs.Rule.{ruleOf}
 use Rattle.type_check.specs.Check.{verdictOf}
+use Rattle.type_check.specs.Looked.{frameCheck}
 use Rattle.tables.specs.Family as family
 use Rattle.type_check.proofs.CheckLaws.{family-judgement, frame-judgement, other-judgement}
 use Rattle.type_check.proofs.program.check_row.Statement.{statement}
@@ -68,8 +69,8 @@ unfolding verdictOf ruleOf caseOf
 returns-8 c = rw (family-judgement _ _ (c .before .before .before .before .args .x) family.store (c .before .match .keys8) refl) (c .type-check-store .ensures)
 
 returns-9 : tie.Need-returns-9
-unfolding verdictOf
-returns-9 c = rw (frame-judgement _ _ (c .before .before .before .before .args .x) (c .before .match .keys9)) (c .check-frame .ensures)
+unfolding verdictOf frameCheck
+returns-9 c = rw (frame-judgement _ _ (c .before .before .before .before .args .x) (c .before .match .keys9)) (ap (λ f. f .verdict) (c .check-frame .ensures))
 
 returns-10 : tie.Need-returns-10
 unfolding verdictOf
