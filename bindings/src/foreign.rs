@@ -22,6 +22,8 @@ macro_rules! console_calls {
 console_calls! {
     fn console_check(error: *mut u64);
 
+    fn console_frame(row: u64, looked: *mut u64, error: *mut u64);
+
     fn console_resolve(row: u64, rows: *mut u64, rows_length: usize, count: *mut u64);
 
     fn console_access(

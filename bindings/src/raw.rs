@@ -38,6 +38,12 @@ pub fn check(tables: &Tables, error: &mut [u64; 6]) -> u64 {
     with_tables!(console_check, tables, error.as_mut_ptr())
 }
 
+/// The type check of the frame in that row alone. It writes `looked` on 0 and on 5: nodes looked at; `error` on 5.
+#[inline]
+pub fn frame(tables: &Tables, row: u64, looked: &mut [u64; 1], error: &mut [u64; 6]) -> u64 {
+    with_tables!(console_frame, tables, row, looked.as_mut_ptr(), error.as_mut_ptr())
+}
+
 /// The arguments of the CALL in that row. It writes `rows` and `count` on 0, resolved rows, and on 8, error rows.
 #[inline]
 pub fn resolve(tables: &Tables, row: u64, rows: &mut [u64], count: &mut [u64; 1]) -> u64 {
