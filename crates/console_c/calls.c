@@ -1,6 +1,6 @@
-/* The calls on tables alone: a type error, a CALL's arguments and names, an expression's
- * references, how long a journal to lend. A session is in example.c. Build and run from the
- * repository's root:
+/* The calls on tables alone: a type error, one frame's verdict, a CALL's arguments and names, an
+ * expression's references, how long a journal to lend. A session is in example.c. Build and run
+ * from the repository's root:
  *   rt staticlib console_c
  *   cc -o target/calls crates/console_c/calls.c target/staticlib/libconsole_c.a && target/calls */
 #include "console.h"
@@ -16,14 +16,18 @@ static const uint64_t regions[] = {A, CONSOLE_KIND_BIT, 2, N, CONSOLE_KIND_INTEG
 /* f returns an INTEGER and takes x, a mutable INTEGER: one parameter, from row 0 on */
 static const uint64_t externs[] = {F, CONSOLE_KIND_INTEGER, 0, 1};
 static const uint64_t parameters[] = {X, 1, CONSOLE_SHAPE_SCALAR, CONSOLE_KIND_INTEGER, 0};
-/* n[1] + (-n[2]) * n[1] */
 static const uint64_t nodes[] = {
+    /* n[1] + (-n[2]) * n[1] */
     CONSOLE_NODE_INFIX,   0, 0, /* its left child comes next, then its right one */
     CONSOLE_NODE_ADDRESS, N, 1,
     CONSOLE_NODE_INFIX,   0, 0,
     CONSOLE_NODE_PREFIX,  0, 0,
     CONSOLE_NODE_ADDRESS, N, 2,
     CONSOLE_NODE_ADDRESS, N, 1,
+    /* pi / 2 */
+    CONSOLE_NODE_INFIX,   0, 0,
+    CONSOLE_NODE_PI,      0, 0,
+    CONSOLE_NODE_NUMBER,  0x4000000000000000, 0, /* the bits of 2.0, no imaginary part */
 };
 /* n[0] for the return, n[2] for x */
 static const uint64_t arguments[] = {
@@ -36,8 +40,13 @@ static const uint64_t instructions[] = {
     /* ADD a[0] 1 */
     CONSOLE_FAMILY_ARITHMETIC, CONSOLE_OPERATOR_ADD, A, 0, 0, 0,
     CONSOLE_SOURCE_INTEGER_LITERAL, 1, 0,
+    /* SET-PHASE 0 "xy" n[1] + (-n[2]) * n[1]: six nodes, from row 0 on */
+    CONSOLE_FAMILY_FRAME, CONSOLE_OPERATOR_SET_PHASE, 0, 6, 0, 0, CONSOLE_SOURCE_NONE, 0, 0,
+    /* SET-PHASE 0 "xy" pi/2: three nodes, from row 6 on */
+    CONSOLE_FAMILY_FRAME, CONSOLE_OPERATOR_SET_PHASE, 6, 3, 0, 0, CONSOLE_SOURCE_NONE, 0, 0,
 };
-enum { CALL_ROW = 0, CALL_ARGUMENTS = 2, NODES = 6 };
+enum { CALL_ROW = 0, BAD_FRAME_ROW = 2, GOOD_FRAME_ROW = 3 };
+enum { CALL_ARGUMENTS = 2, NODES = 6 }; /* of row 0; of the first expression */
 
 #define LENGTH(x) (sizeof(x) / sizeof((x)[0]))
 /* the program of that many words of the instructions */
@@ -59,6 +68,17 @@ static void check(void)
     uint64_t error[CONSOLE_TYPE_ERROR_WIDTH] = {0};
     uint64_t number = console_check(TABLES, error);
     print("check", number, error, LENGTH(error));
+}
+
+/* Of the good frame all three nodes; of the bad one those up to n[1], which is no REAL. */
+static void frame(void)
+{
+    uint64_t looked[1] = {0}, error[CONSOLE_TYPE_ERROR_WIDTH] = {0};
+    uint64_t number = console_frame(TABLES, GOOD_FRAME_ROW, looked, error);
+    print("frame looked", number, looked, LENGTH(looked));
+    number = console_frame(TABLES, BAD_FRAME_ROW, looked, error);
+    print("frame looked", number, looked, LENGTH(looked));
+    print("frame error", number, error, LENGTH(error));
 }
 
 static void resolve(void)
@@ -109,7 +129,7 @@ static void reference(void)
     } while (found[0] == 1);
 }
 
-/* Of the CALL alone its entries, of both rows the ADD's type error. */
+/* Of the CALL alone its entries, of all rows the ADD's type error. */
 static void journal_length(void)
 {
     uint64_t entries[1] = {0}, error[CONSOLE_TYPE_ERROR_WIDTH] = {0};
@@ -122,6 +142,7 @@ static void journal_length(void)
 int main(void)
 {
     check();
+    frame();
     resolve();
     access();
     references();

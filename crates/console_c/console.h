@@ -312,6 +312,13 @@ static inline const char *console_cause(uint64_t number)
 /* The type check: 1, 2, 3, 5. error on 5: kind, row, spot, src spot, two codes. */
 uint64_t console_check(CONSOLE_TABLES, uint64_t error[CONSOLE_TYPE_ERROR_WIDTH]);
 
+/* The type check of the frame in that row, whatever type errors other rows have: 1, 2, 3, 5. It
+ * ends at the first node that fails. looked on 0 and on 5: how many nodes it looked at, on 0 all of
+ * the frame's, on 5 the failing one's place in its tree, from 0, plus 1. error on 5, as
+ * console_check has it where this row is the first bad one. */
+uint64_t console_frame(CONSOLE_TABLES, uint64_t row, uint64_t looked[1],
+                       uint64_t error[CONSOLE_TYPE_ERROR_WIDTH]);
+
 /* The resolved arguments of the CALL in that row: 1, 2, 3, 6, 7, 4, 8. rows takes 7 words an
  * argument. On 0 it holds count resolved rows of 5 words, on 8 count error rows of 7 words; count
  * is written on both. */
