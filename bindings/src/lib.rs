@@ -3,7 +3,7 @@
 //!
 //! - Rows of the tables: [`Region`], [`Extern`], [`Parameter`], [`Node`], [`UnresolvedCallArgument`], [`Instruction`],
 //!   each with `row()`, its words; [`Tables`] lends them, `Program` (feature `std`) collects them.
-//! - Calls on the tables: [`check`], [`resolve`], [`access`], [`journal_length`]; on an expression:
+//! - Calls on the tables: [`check`], [`frame`], [`resolve`], [`access`], [`journal_length`]; on an expression:
 //!   [`Walk::memory_references`].
 //! - A session: [`Session::open`], [`forward`](Session::forward), [`back`](Session::back), [`reset`](Session::reset).
 //! - [`raw`] is the C interface as it is.
@@ -33,6 +33,7 @@ mod check;
 #[cfg(feature = "std")]
 mod errors;
 mod foreign;
+mod frame;
 mod instruction;
 mod journal_length;
 mod kind;
@@ -54,6 +55,7 @@ pub use access::{access, AccessSets};
 pub use argument::{ResolvedCallArgument, UnresolvedCallArgument, Vector};
 pub use argument_error::{CallArgumentError, CallArgumentResolutionError};
 pub use check::check;
+pub use frame::{frame, FrameRefusal};
 pub use instruction::{Instruction, Source};
 pub use journal_length::journal_length;
 pub use kind::Kind;

@@ -1,6 +1,6 @@
 use core::fmt;
 
-/// The first type error of a program.
+/// The first type error of a program, or of one frame.
 #[derive(Clone, Copy, Debug, PartialEq, Eq)]
 #[non_exhaustive]
 pub struct TypeError {
