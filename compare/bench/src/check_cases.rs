@@ -1,14 +1,18 @@
-//! `check` beside `type_check`.
+//! `check`, and `frame` of a program of one row, beside `type_check`.
 use crate::{
     case::{hidden, Against, Case},
     inputs,
 };
 use library::lent;
+use mugwortlatch::FrameRefusal;
 use oracle::program::{program, Naming};
 use quil_rs::program::type_check::type_check;
 use tables::Tables;
 
 const ROWS: [u64; 3] = [8, 64, 512];
+
+/// Nodes on the right of a leaf that fails, to the most that a table has room for.
+const RIGHT: [u64; 3] = [16, 128, 2046];
 
 pub fn all() -> Vec<Case> {
     let mut cases = Vec::new();
@@ -40,7 +44,31 @@ pub fn all() -> Vec<Case> {
         cases.push(case(format!("frames: {rows}, all one deep tree of 2,048 nodes"), tables, true));
     }
     cases.push(case("every table at its limit".to_string(), inputs::limits(), true));
+    cases.extend(RIGHT.iter().flat_map(|&right| left_fails(right)));
     cases
+}
+
+/// A frame whose left leaf fails, by both calls; and the same behind a row that fails, where the frame is not judged: what
+/// `check` costs less there is the frame's own check.
+fn left_fails(right: u64) -> [Case; 3] {
+    let mut tables = inputs::regions(8, 8);
+    inputs::left_fails(&mut tables, right);
+    let input = format!("frame: its left leaf fails, {right} nodes on the right");
+    let alone = frame(input.clone(), tables.clone());
+    let whole = case(input, tables.clone(), false);
+    inputs::fail_first(&mut tables);
+    [alone, whole, case(format!("the same frame, {right} nodes on the right, behind a row that fails"), tables, false)]
+}
+
+/// Two nodes are looked at: the infix and its left leaf.
+fn frame(input: String, tables: Tables) -> Case {
+    let frame = mugwortlatch::frame(&lent(&tables), 0);
+    assert!(matches!(frame, Err(FrameRefusal::Error { looked: 2, .. })), "{input}");
+    let theirs = case(input, tables.clone(), false);
+    let ours = Box::new(move || {
+        let _ = hidden(&mugwortlatch::frame(hidden(&lent(&tables)), 0));
+    });
+    Case { call: "frame", ours, ..theirs }
 }
 
 fn case(input: String, tables: Tables, accepted: bool) -> Case {

@@ -68,11 +68,20 @@ pub fn classical(tables: &mut Tables, rows: u64) {
     }
 }
 
-/// Makes the last row ADD to a BIT, an operand error.
+/// ADD to a BIT, an operand error.
+fn failing() -> [u64; INSTRUCTION] {
+    [0, 0, region(0), 0, 0, 0, 0, 1, 0]
+}
+
+/// Makes the last row fail.
 pub fn fail_last(tables: &mut Tables) {
-    let row = [0, 0, region(0), 0, 0, 0, 0, 1, 0];
     let last = tables.instructions.len() - INSTRUCTION;
-    tables.instructions[last..].copy_from_slice(&row);
+    tables.instructions[last..].copy_from_slice(&failing());
+}
+
+/// Puts a row that fails before the others.
+pub fn fail_first(tables: &mut Tables) {
+    tables.instructions.splice(0..0, failing());
 }
 
 /// Adds a tree as deep as its nodes allow, all but the last on the right, and gives its first node. `nodes` is odd
@@ -127,6 +136,15 @@ pub fn frames(tables: &mut Tables, rows: u64, nodes: u64) {
 pub fn shared_frames(tables: &mut Tables, rows: u64, nodes: u64) {
     let first = deep_tree(tables, nodes);
     (0..rows).for_each(|i| tables.instructions.extend(frame(i, first, nodes)));
+}
+
+/// Adds a frame row over an infix node whose left leaf, an INTEGER, fails; on the right a deep tree of that many nodes.
+pub fn left_fails(tables: &mut Tables, right: u64) {
+    let first = (tables.nodes.len() / NODE) as u64;
+    tables.nodes.extend([2, 0, 0]);
+    tables.nodes.extend([0, region(INTEGER), 0]);
+    deep_tree(tables, right);
+    tables.instructions.extend(frame(0, first, right + 2));
 }
 
 /// Adds externs without return, of so many parameters each: a mutable INTEGER, a REAL, a REAL vector of the regions'
