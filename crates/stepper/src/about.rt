@@ -1,8 +1,9 @@
-// About the current row: a CALL's resolved arguments and access sets, a frame's references.
+// About the current row: a CALL's resolved arguments and access sets, a frame's references and how many nodes its type check looked at.
 use crate::explain::show_call;
 use console::references::WalkAnswer;
 use console::references::memory_references;
 use stepper_calls::access_row;
+use stepper_calls::looked::looked_line;
 use stepper_desk::current::Current;
 use stepper_desk::current::row_at;
 use stepper_desk::current::this_row;
@@ -111,7 +112,8 @@ fn about_row(
             let nodes = table(tables, Table::Nodes, lengths);
             this_row(source, names, tables, desk, row);
             let line = Line::new(desk.view).text(b"  references");
-            references(line, source, names, nodes, x).end()
+            references(line, source, names, nodes, x).end();
+            looked_line(tables, lengths, row)
         }
         _ => nothing_more(),
     }

@@ -6,6 +6,7 @@ use script::line::least;
 use session::answer::OpenAnswer;
 use stepper_calls::open_tables;
 use stepper_calls::step::forward_with;
+use stepper_calls::verdict::error_lines;
 use stepper_desk::current::is_call;
 use stepper_desk::current::this_row;
 use stepper_desk::key::is_open;
@@ -20,7 +21,6 @@ use stepper_lines::refusal::refused;
 use stepper_tables::file::TABLE_WORDS;
 use stepper_tables::held::table;
 use stepper_told::errors::RESOLVE_WORDS;
-use stepper_told::errors::type_error;
 use stepper_told::reply::REPLY_WORDS;
 use stepper_told::reply::Reply;
 use stepper_told::reply::ask_reply;
@@ -36,6 +36,7 @@ fn opened(
     desk: Desk,
     answer: OpenAnswer,
 ) -> State {
+    let lengths = desk.lengths;
     match answer {
         OpenAnswer::Opened(_) => State::Opened,
         OpenAnswer::Refused(number) => {
@@ -46,7 +47,7 @@ fn opened(
         OpenAnswer::Error(error) => {
             refused(TYPE_ERROR, desk.view);
             this_row(source, names, tables, desk, error.row as usize);
-            type_error(error);
+            error_lines(tables, lengths, error);
             State::Refused(TYPE_ERROR)
         }
     }

@@ -1,6 +1,7 @@
-// The public calls on the tables as the terminal holds them; by them a step, the type check's verdict in words, the first CALL that does not resolve, how long a journal is enough.
+// The public calls on the tables as the terminal holds them; by them a step, the type check's verdict in words, the first CALL that does not resolve, how many nodes of a frame were looked at, how long a journal is enough.
 pub mod bad_call;
 pub mod length;
+pub mod looked;
 pub mod step;
 pub mod verdict;
 
@@ -8,6 +9,8 @@ use access_sets::access::AccessAnswer;
 use console::access::access;
 use console::check::CheckAnswer;
 use console::check::check;
+use console::frame::FrameAnswer;
+use console::frame::frame;
 use console::resolve::resolve;
 use console_session::back::back;
 use console_session::forward::forward;
@@ -68,6 +71,18 @@ pub fn access_row(
         row,
         reads,
         writes,
+    )
+}
+
+pub fn frame_row(tables: &[u64], lengths: [usize; TABLES], row: usize) -> FrameAnswer {
+    frame(
+        table(tables, Table::Regions, lengths),
+        table(tables, Table::Externs, lengths),
+        table(tables, Table::Parameters, lengths),
+        table(tables, Table::Nodes, lengths),
+        table(tables, Table::Arguments, lengths),
+        table(tables, Table::Instructions, lengths),
+        row,
     )
 }
 

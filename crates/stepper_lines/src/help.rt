@@ -8,7 +8,7 @@ pub fn help() {
         b        back: takes the last step back\n  \
         r        reset: opens the program again\n  \
         a        about the current row: a CALL's arguments and access sets,\n           \
-        a frame's references\n  \
+        a frame's references, and how many nodes its type check looked at\n  \
         c        type check of the whole program\n  \
         x        REAL words as bits, on and off\n  \
         m        more: all rows, regions and cells in full, on and off\n  \
