@@ -20,7 +20,7 @@ fn calls(refusal: u64) {
         all calls\n\
         all calls but the walk\n\
         resolve, access, open, forward, back\n\
-        check, open, journal_length\n\
+        check, frame (the chosen row), open, journal_length\n\
         resolve, access, open, journal_length, forward\n\
         resolve, open, journal_length, forward\n\
         resolve (with the error rows), open, journal_length, forward\n\
@@ -39,7 +39,7 @@ fn calls(refusal: u64) {
     );
 }
 
-// Each kind of place, of type error and of argument error has an example of its own, and so has a journal that is long enough.
+// Each kind of place, of type error and of argument error has an example of its own, and so have a frame's left operand and a journal that is long enough.
 fn more(refusal: u64) {
     match refusal {
         TABLE_SHAPE => text(b"- A table over its limit: `examples/refusal-1-limit.tables`\n"),
@@ -48,7 +48,8 @@ fn more(refusal: u64) {
         ),
         NAME_TWICE => text(b"- Two externs: `examples/refusal-3-externs.tables`\n"),
         TYPE_ERROR => text(
-            b"- Type error 1, an operand is not declared; 2, kinds differ; 3, a frame needs a real value; 4, the operator does not take the operand: `examples/type-error-1.tables` to `-4.tables`\n",
+            b"- Type error 1, an operand is not declared; 2, kinds differ; 3, a frame needs a real value; 4, the operator does not take the operand: `examples/type-error-1.tables` to `-4.tables`\n\
+            - A frame's check ends at the first node that fails, and the console tells how many it looked at: `examples/frame-left.tables`\n",
         ),
         ARGUMENT_ERRORS => text(
             b"- Argument error 1, not declared; 2, another vector; 3, another kind of scalar; 4, no vector; 5, an immediate for the return; 6, an immediate for a mutable parameter: `examples/argument-error-1.tables` to `-6.tables`\n",
@@ -92,6 +93,7 @@ fn intro() {
         | call | looks for, in this order |\n\
         |---|---|\n\
         | check | 1, 2, 3, 5 |\n\
+        | frame | 1, 2, 3, 5 |\n\
         | resolve | 1, 2, 3, 6, 7, 4, 8 |\n\
         | access | 1, 2, 3, 6, 4 |\n\
         | walk | 1, 2 |\n\
