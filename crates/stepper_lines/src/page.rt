@@ -88,7 +88,7 @@ fn intro() {
     text(
         b"# What is turned down, and why\n\n\
         A program, a key or a reply is turned down for one of nineteen causes, and for no other. \
-        A call looks for them in its order and gives the first; what it is lent stays as it was, but for resolve, which writes its error rows with 8. \
+        A call looks for them in its order and gives the first; what it is lent stays as it was, but for what it tells: with 5 the type error, in frame also the nodes looked at, and in resolve with 8 the error rows. \
         Of 1, 2 and 3 the console names the table, and the row and the word or both rows.\n\n\
         | call | looks for, in this order |\n\
         |---|---|\n\
