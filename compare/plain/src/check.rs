@@ -1,6 +1,6 @@
-//! The type check: the first bad row's error as six words. One function a family, its looks in 01's order.
+//! The type check: the first bad row's error as six words, or a frame row's with a count. One function a family, its
+//! looks in 01's order.
 use crate::{
-    layout::lookup,
     rows::{instruction, Instruction, Source, Unary},
     BIT, INTEGER, REAL,
 };
@@ -28,9 +28,20 @@ type Judged = Result<(), Bad>;
 
 pub fn type_error(tables: &Tables) -> Option<[u64; 6]> {
     (0..tables.instructions().count()).find_map(|row| {
-        let [kind, spot, src, code, other] = judge(tables, row).err()?;
-        Some([kind, row as u64, spot, src, code, other])
+        let bad = judge(tables, row).err()?;
+        Some(with_row(bad, row))
     })
+}
+
+/// A frame row's error, if it has one, and how many of its nodes were looked at.
+pub fn frame_error(tables: &Tables, row: usize) -> (Option<[u64; 6]>, u64) {
+    let w = tables.instruction(row);
+    let (judged, looked) = frame(tables, tables.nodes_of(w[2], w[3]));
+    (judged.err().map(|bad| with_row(bad, row)), looked)
+}
+
+fn with_row([kind, spot, src, code, other]: Bad, row: usize) -> [u64; 6] {
+    [kind, row as u64, spot, src, code, other]
 }
 
 /// "Families 9 and 10 pass."
@@ -44,7 +55,7 @@ fn judge(t: &Tables, row: usize) -> Judged {
         Instruction::Exchange { first, second } => exchange(t, first.name, second.name),
         Instruction::Load { destination, source, offset } => load(t, destination.name, source, offset.name),
         Instruction::Store { destination, offset, source } => store(t, destination, offset.name, source),
-        Instruction::Frame { first_node, nodes } => frame(t, t.nodes_of(first_node as u64, nodes as u64)),
+        Instruction::Frame { first_node, nodes } => frame(t, t.nodes_of(first_node as u64, nodes as u64)).0,
         Instruction::Call { .. } | Instruction::Nop | Instruction::Other => Ok(()),
     }
 }
@@ -128,22 +139,33 @@ fn store(t: &Tables, destination: u64, offset: u64, source: Source) -> Judged {
     Ok(())
 }
 
-fn frame(t: &Tables, nodes: &[u64]) -> Judged {
-    nodes.chunks(NODE).zip(NODES..).try_for_each(|(node, spot)| match node[0] {
+/// 02, P3: "let the frame check end at the first failure, with the error reported today, and count the nodes it looked
+/// at".
+fn frame(t: &Tables, nodes: &[u64]) -> (Judged, u64) {
+    let mut looked = 0;
+    let judged = nodes.chunks(NODE).zip(NODES..).try_for_each(|(words, spot)| {
+        looked += 1;
+        node(t, words, spot)
+    });
+    (judged, looked)
+}
+
+fn node(t: &Tables, words: &[u64], spot: u64) -> Judged {
+    match words[0] {
         0 => {
-            let found = declared(t, node[1], spot)?;
+            let found = declared(t, words[1], spot)?;
             require(found == REAL, [3, spot, 0, found, ABSENT])
         }
         // "Imaginary part above 2^-52 in size is 3, NaN passes."
-        3 => require(!(f64::from_bits(node[2]).abs() > 2f64.powi(-52)), [3, spot, 0, IMAGINARY, ABSENT]),
+        3 => require(!(f64::from_bits(words[2]).abs() > 2f64.powi(-52)), [3, spot, 0, IMAGINARY, ABSENT]),
         6 => Err([3, spot, 0, VARIABLE, ABSENT]),
         _ => Ok(()),
-    })
+    }
 }
 
-/// The declared kind, or error 1 at that spot.
+/// The declared kind, or error 1 at that spot. The regions may have too many cells: frame does not look for 10.
 fn declared(t: &Tables, name: u64, spot: u64) -> Result<u64, Bad> {
-    lookup(t, name).map(|region| region.kind).ok_or([1, spot, 0, ABSENT, ABSENT])
+    t.regions().find(|r| r[0] == name).map(|r| r[1]).ok_or([1, spot, 0, ABSENT, ABSENT])
 }
 
 /// "Integer literal into REAL, real literal elsewhere" is the error, with the literal's code.

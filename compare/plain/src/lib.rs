@@ -1,5 +1,6 @@
-//! A plain machine for journal_length, open, forward and back, written from the papers (01, 02) and docs/DECISIONS.md: not from the
-//! library's definitions and not from quil-rs. It is slow and looks at everything anew in each call.
+//! A plain machine for frame, journal_length, open, forward and back, written from the papers (01, 02) and
+//! docs/DECISIONS.md: not from the library's definitions and not from quil-rs. It is slow and looks at everything anew in
+//! each call.
 mod call;
 mod check;
 mod history;

@@ -1,8 +1,9 @@
-//! The loader's causes: 1, 2, 3 over the tables, then 10; and 4 over what is lent.
+//! The loader's causes: 1, 2, 3 over the tables, with a chosen row or without, then 10; and 4 over what is lent.
 use crate::layout::cell_count;
 use tables::{Tables, ARGUMENT, EXTERN, INSTRUCTION, NODE, PARAMETER, REGION};
 
 const CELLS: u128 = 4096;
+const FRAME: u64 = 8;
 
 /// "The journal, at most 2,048 entries of three words."
 pub const ENTRIES: usize = 2048;
@@ -10,12 +11,21 @@ pub const ENTRY: usize = 3;
 
 /// The tables in the order 1, 2, 3, 10. The number of cells, or the refusal.
 pub fn load(tables: &Tables) -> Result<usize, u64> {
-    need(whole(tables), 1)?;
-    need(words_allowed(tables), 2)?;
-    need(distinct(&tables.regions, REGION) && distinct(&tables.externs, EXTERN), 3)?;
+    looks(tables, |_| true)?;
     let cells = cell_count(tables);
     need(cells <= CELLS, 10)?;
     Ok(cells as usize)
+}
+
+/// The tables in the order 1, 2, 3; the row is a frame's: "chosen row absent or of the wrong family" is 2.
+pub fn load_frame(tables: &Tables, row: u64) -> Result<(), u64> {
+    looks(tables, |tables| tables.instructions().nth(row as usize).is_some_and(|chosen| chosen[0] == FRAME))
+}
+
+fn looks(tables: &Tables, chosen: impl Fn(&Tables) -> bool) -> Result<(), u64> {
+    need(whole(tables), 1)?;
+    need(words_allowed(tables) && chosen(tables), 2)?;
+    need(distinct(&tables.regions, REGION) && distinct(&tables.externs, EXTERN), 3)
 }
 
 /// "4 lent buffer too short, or journal not whole entries or too long."

@@ -1,17 +1,34 @@
-//! Journal_length on the tables alone; open, forward and back on lent memory and a lent journal.
+//! Frame and journal_length on the tables alone; open, forward and back on lent memory and a lent journal.
 use crate::{
     call::resolve,
-    check::type_error,
+    check::{frame_error, type_error},
     layout::{cell, set_cell, zeros, Cell},
     length::journal_entries,
-    loader::{lent, load, need, ENTRY},
+    loader::{lent, load, load_frame, need, ENTRY},
     rows::{instruction, Instruction},
     step::outcome,
 };
-use tables::{Session, Tables, INSTRUCTION};
+use tables::{FrameCheck, Session, Tables, INSTRUCTION};
 
 /// The machine on lent buffers.
 pub struct Plain;
+
+impl FrameCheck for Plain {
+    fn frame(&self, tables: &Tables, row: u64, looked: &mut [u64; 1], error: &mut [u64; 6]) -> u64 {
+        if let Err(number) = load_frame(tables, row) {
+            return number;
+        }
+        let (found, count) = frame_error(tables, row as usize);
+        *looked = [count];
+        match found {
+            Some(found) => {
+                *error = found;
+                5
+            }
+            None => 0,
+        }
+    }
+}
 
 impl Session for Plain {
     /// "A program that open would turn down gets open's number, buffers apart."

@@ -1,12 +1,14 @@
 //! A program as six tables of words, the questions asked about it and their answers. Both sides share this and
 //! nothing else.
 mod console;
+mod frame;
 mod query;
 pub mod random_numbers;
 mod session;
 mod text;
 
 pub use console::Console;
+pub use frame::FrameCheck;
 pub use query::{blank, blanks, Answer, Query};
 pub use session::Session;
 pub use text::{quil_text, words_text};

@@ -1,4 +1,4 @@
-"""The type check: the first bad row's error as six words, or None."""
+"""The type check: the first bad row's error as six words, or None; a frame's also with the nodes looked at."""
 from .tables import *
 from .words import real_of
 
@@ -138,19 +138,26 @@ def store_row(row, regions):
     return None if source == kind else data_type(SOURCE, FIRST, source, kind)
 
 
+def frame_node(node, spot, regions):
+    if node.tag == ADDRESS:
+        kind = kind_of(regions, node.left)
+        if kind is None:
+            return undefined(spot)
+        return None if kind == REAL else (REAL_REQUIRED, spot, 0, kind, ABSENT)
+    if node.tag == NUMBER and abs(real_of(node.right)) > EPSILON:
+        return REAL_REQUIRED, spot, 0, CODE_IMAGINARY, ABSENT
+    return (REAL_REQUIRED, spot, 0, CODE_VARIABLE, ABSENT) if node.tag == VARIABLE_NODE else None
+
+
 def frame(row, tables):
+    """The error, and the count: "let the frame check end at the first failure .. and count the nodes it looked at"."""
+    looked = 0
     for place, node in enumerate(tables.nodes[row.first:row.first + row.first_index]):
-        if node.tag == ADDRESS:
-            kind = kind_of(tables.regions, node.left)
-            if kind is None:
-                return undefined(NODES + place)
-            if kind != REAL:
-                return REAL_REQUIRED, NODES + place, 0, kind, ABSENT
-        if node.tag == NUMBER and abs(real_of(node.right)) > EPSILON:
-            return REAL_REQUIRED, NODES + place, 0, CODE_IMAGINARY, ABSENT
-        if node.tag == VARIABLE_NODE:
-            return REAL_REQUIRED, NODES + place, 0, CODE_VARIABLE, ABSENT
-    return None
+        looked += 1
+        error = frame_node(node, NODES + place, tables.regions)
+        if error:
+            return error, looked
+    return None, looked
 
 
 RULES = {ARITHMETIC: arithmetic, COMPARISON: comparison, LOGIC: logic, UNARY: unary, MOVE: move, EXCHANGE: exchange,
@@ -159,15 +166,19 @@ RULES = {ARITHMETIC: arithmetic, COMPARISON: comparison, LOGIC: logic, UNARY: un
 
 def row_error(row, tables):
     if row.family == FRAME:
-        return frame(row, tables)
+        return frame(row, tables)[0]
     rule = RULES.get(row.family)
     return rule(row, tables.regions) if rule else None
 
 
-def type_error(tables):
+def numbered(number, error):
     """Kind, row, spot, spot of `src`, and two codes."""
+    return (error[0], number) + error[1:]
+
+
+def type_error(tables):
     for number, row in enumerate(tables.instructions):
         error = row_error(row, tables)
         if error:
-            return (error[0], number) + error[1:]
+            return numbered(number, error)
     return None

@@ -1,12 +1,19 @@
-"""The calls that take tables alone: check, resolve, access and the walk; and the loader's look at a chosen row."""
+"""The calls that take tables alone: check, frame, resolve, access and the walk; and the loader's look at a chosen row."""
 from .calls import ERROR_WORDS, Failed, access_sets, error_rows, resolve_all
-from .check import type_error
+from .check import frame as frame_verdict, numbered, type_error
 from .outcome import Refused, TypeErrors, need
-from .tables import ADDRESS, CALL, NODE_TABLE, Node, decoded, load, node_allowed, one_tree, rows_of, table_sized
+from .tables import ADDRESS, CALL, FRAME, NODE_TABLE, Node, decoded, load, node_allowed, one_tree, rows_of, table_sized
 
 
 # A reference's name and index.
 REFERENCE_WORDS = 2
+
+
+class FrameError(TypeErrors):
+    """5, with the count of nodes looked at before the type error's words."""
+
+    def __init__(self, looked, error):
+        super().__init__((looked, *error))
 
 
 class ArgumentErrors(Refused):
@@ -34,6 +41,15 @@ def check(words):
     if error:
         raise TypeErrors(error)
     return ()
+
+
+def frame(words, row):
+    """How many nodes of the frame were looked at."""
+    tables = loaded(words, row, FRAME)
+    error, looked = frame_verdict(tables.instructions[row], tables)
+    if error:
+        raise FrameError(looked, numbered(row, error))
+    return looked,
 
 
 def resolve(words, row, rows):
