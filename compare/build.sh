@@ -109,7 +109,7 @@ offline() {
 
 build() { offline build "$@"; }
 
-# The bench lines and 02's counts of journal entries, by hand, on the plain machine.
+# The bench lines and 02's counts of journal entries and of nodes, by hand, on the plain machine.
 by_hand() {
     say "the bench lines and counts by hand on the plain machine"
     offline test -p plain >target/by_hand.log 2>&1 || fail "not as the papers say: see compare/target/by_hand.log"

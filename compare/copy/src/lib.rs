@@ -1,7 +1,7 @@
 //! An unproved copy of the library: crates/*/src without the contracts, compiled as Rust. Sensitivity runs edit such a
 //! copy; the proved library itself cannot be had with the edit in it.
-use console_c::{access, back, check, forward, journal_length, open, reference, references, resolve};
-use tables::{Console, Session, Tables};
+use console_c::{access, back, check, forward, frame, journal_length, open, reference, references, resolve};
+use tables::{Console, FrameCheck, Session, Tables};
 
 pub struct Unproved;
 
@@ -18,6 +18,12 @@ macro_rules! with_tables {
             $(, $more)*
         )
     };
+}
+
+impl FrameCheck for Unproved {
+    fn frame(&self, tables: &Tables, row: u64, looked: &mut [u64; 1], error: &mut [u64; 6]) -> u64 {
+        with_tables!(frame::console_frame, tables, row, looked, error)
+    }
 }
 
 impl Console for Unproved {

@@ -2,7 +2,7 @@
 //! comparison holds every lent word against another machine's, also those that a refusal must not touch, and the
 //! enums show only some of them. A slip in their decoding must not hide a wrong word, nor make one.
 use mugwortlatch::raw;
-use tables::{Console, Session, Tables};
+use tables::{Console, FrameCheck, Session, Tables};
 
 pub struct Proved;
 
@@ -15,6 +15,12 @@ pub fn lent(tables: &Tables) -> mugwortlatch::Tables<'_> {
         nodes: &tables.nodes,
         arguments: &tables.arguments,
         instructions: &tables.instructions,
+    }
+}
+
+impl FrameCheck for Proved {
+    fn frame(&self, tables: &Tables, row: u64, looked: &mut [u64; 1], error: &mut [u64; 6]) -> u64 {
+        raw::frame(&lent(tables), row, looked, error)
     }
 }
 

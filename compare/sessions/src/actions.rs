@@ -116,6 +116,7 @@ fn actions(random: &mut Random, list: &List, course: &Course) -> Vec<Action> {
     let mut actions = Vec::new();
     while actions.len() < course.count {
         let action = match opened {
+            _ if random.chance(5) => Action::Frame(chosen(random, &tables)),
             _ if random.chance(5) => Action::JournalLength,
             false => Action::Open,
             true if course.manner != Manner::Ours && random.chance(20) => foreign(random, &tables, &side),
@@ -140,6 +141,16 @@ fn actions(random: &mut Random, list: &List, course: &Course) -> Vec<Action> {
         }
     }
     actions
+}
+
+/// Mostly a frame's row, if there is one; else any, absent ones too.
+fn chosen(random: &mut Random, tables: &Tables) -> u64 {
+    let frames: Vec<u64> = (0..).zip(tables.instructions()).filter(|(_, row)| row[0] == 8).map(|(i, _)| i).collect();
+    let any = random.below(rows(tables) + 1);
+    match random.choose(&frames) {
+        Some(row) if random.chance(90) => *row,
+        _ => random.pick(&[any, any, rows(tables), 1 << 32, u64::MAX]),
+    }
 }
 
 /// What a foreign writer does: a cell's kind or word, a word of the journal's used part, the position, a table's word.

@@ -1,5 +1,6 @@
-//! Call lists by chance through journal_length, open, forward and back, against the plain machine on the same lent words,
-//! and against demand 3's machine and 02's claim about the journal where only our calls wrote.
+//! Call lists by chance through frame, journal_length, open, forward and back, against the plain machine on the same
+//! lent words and 02's claim about a frame's count, and against demand 3's machine and 02's claim about the journal where
+//! only our calls wrote.
 mod actions;
 mod damage;
 mod externs;

@@ -14,6 +14,8 @@ pub struct List {
 
 #[derive(Clone, Debug, PartialEq)]
 pub enum Action {
+    /// Of that row.
+    Frame(u64),
     JournalLength,
     Open,
     /// With its reply.
@@ -64,11 +66,21 @@ impl List {
 impl Action {
     /// One of ours, and not a foreign writer's.
     pub fn is_call(&self) -> bool {
-        matches!(self, Action::JournalLength | Action::Open | Action::Forward(_) | Action::Back)
+        use Action::{Back, Forward, Frame, JournalLength, Open};
+        matches!(self, Frame(_) | JournalLength | Open | Forward(_) | Back)
+    }
+
+    /// The row that frame is asked about.
+    pub fn frame_row(&self) -> Option<u64> {
+        match self {
+            Action::Frame(row) => Some(*row),
+            _ => None,
+        }
     }
 
     pub fn text(&self) -> String {
         match self {
+            Action::Frame(row) => format!("frame of row {row}"),
             Action::JournalLength => "journal_length".to_string(),
             Action::Open => "open".to_string(),
             Action::Forward(reply) if reply.is_empty() => "forward".to_string(),

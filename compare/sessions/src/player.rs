@@ -10,9 +10,11 @@ use tables::{Session, Tables, INSTRUCTION};
 pub struct Call<'a> {
     pub action: &'a Action,
     pub number: u64,
+    /// What frame gave.
+    pub looked: u64,
     /// What journal_length gave.
     pub entries: u64,
-    /// The row that the position named before the call, if there is one.
+    /// The row that frame was asked about, or that the position named before another call, if there is one.
     pub row: Option<&'a [u64]>,
     /// Where demand 3's machine stands beside: how many entries the journal has above the sum that 02 counts.
     pub spare: Option<i64>,
@@ -33,13 +35,31 @@ pub fn play(library: &dyn Session, list: &List, seen: &mut dyn FnMut(Call)) -> O
             Ok(None) => continue,
             Err(what) => return Some(Difference { at, what }),
         };
-        let (entries, row, spare) = (both.ours.entries[0], row(&both.tables, done), both.spare());
-        seen(Call { action, number, entries, row, spare });
-        if let Some(what) = both.replay.as_ref().and_then(|replay| replay.broken(number, &both.theirs)) {
+        let (looked, entries, spare) = (both.ours.looked[0], both.ours.entries[0], both.spare());
+        let row = row(&both.tables, action.frame_row().unwrap_or(done));
+        let call = Call { action, number, looked, entries, row, spare };
+        let broken = || both.replay.as_ref().and_then(|replay| replay.broken(number, &both.theirs));
+        let what = miscounted(&call, &both.theirs).or_else(broken);
+        seen(call);
+        if let Some(what) = what {
             return Some(Difference { at, what });
         }
     }
     None
+}
+
+/// The spot of a tree's first node.
+const FIRST_NODE: u64 = 4;
+
+/// "The count is the failing node's place in its tree plus 1, or the whole tree's where none fails."
+fn miscounted(call: &Call, library: &Side) -> Option<String> {
+    let (looked, spot) = (library.looked[0], library.error[2]);
+    let count = match (call.action, call.number) {
+        (Action::Frame(_), 0) => call.row.map_or(0, |row| row[3]),
+        (Action::Frame(_), 5) => (spot + 1).saturating_sub(FIRST_NODE),
+        _ => return None,
+    };
+    (looked != count).then(|| format!("02's claim: {looked} nodes looked at, not {count}"))
 }
 
 fn row(tables: &Tables, done: u64) -> Option<&[u64]> {

@@ -7,10 +7,11 @@ use crate::{
 use plain::ENTRIES;
 use std::{collections::BTreeMap, io::Write, time::Instant};
 
-const CALLS: [&str; 4] = ["journal_length", "open", "forward", "back"];
+const CALLS: [&str; 5] = ["frame", "journal_length", "open", "forward", "back"];
 
 /// The refusals that each call can give, in the papers' order.
-const REFUSALS: [&[u64]; 4] = [
+const REFUSALS: [&[u64]; 5] = [
+    &[1, 2, 3, 5],
     &[1, 2, 3, 10, 5, 9, 6, 7, 8],
     &[1, 2, 3, 10, 4, 5, 9, 6, 7, 8],
     &[1, 2, 3, 10, 4, 19, 11, 9, 6, 7, 8, 14, 17, 13, 18, 15, 16],
@@ -36,15 +37,19 @@ pub struct Report {
     journals: Journals,
     /// Sums that no journal can have as its entries.
     above: u64,
+    /// Frames that failed before their last node, and at it.
+    early: u64,
+    late: u64,
 }
 
 /// A call by its place among them.
 fn place(action: &Action) -> Option<usize> {
     match action {
-        Action::JournalLength => Some(0),
-        Action::Open => Some(1),
-        Action::Forward(_) => Some(2),
-        Action::Back => Some(3),
+        Action::Frame(_) => Some(0),
+        Action::JournalLength => Some(1),
+        Action::Open => Some(2),
+        Action::Forward(_) => Some(3),
+        Action::Back => Some(4),
         _ => None,
     }
 }
@@ -57,11 +62,13 @@ impl Report {
         };
         self.journals.seen(call);
         *self.answers.entry((of, call.number)).or_default() += 1;
-        // Journal_length is none of that machine's calls.
-        if call.spare.is_some() && *call.action != Action::JournalLength {
+        // Frame and journal_length are none of that machine's calls.
+        if call.spare.is_some() && !matches!(call.action, Action::Frame(_) | Action::JournalLength) {
             *self.replayed.entry((of, call.number)).or_default() += 1;
         }
         match (call.action, call.number, call.row) {
+            (Action::Frame(_), 5, Some(row)) if call.looked < row[3] => self.early += 1,
+            (Action::Frame(_), 5, _) => self.late += 1,
             (Action::JournalLength, 0, _) => self.above += u64::from(call.entries > ENTRIES as u64),
             (Action::Forward(_), 0, Some(row)) => *self.steps.entry((row[0], row[1])).or_default() += 1,
             (Action::Forward(_), number, Some(row)) => *self.refused.entry((row[0], number)).or_default() += 1,
@@ -75,14 +82,17 @@ impl Report {
         self.journals.played(list);
     }
 
-    /// Refusals that a call can give and did not, and what else a run has to meet.
+    /// Numbers that a call can give and did not, and what else a run has to meet.
     pub fn missing(&self) -> Vec<String> {
         let given = |of, number| self.answers.contains_key(&(of, number));
         let mut missing: Vec<String> = (0..CALLS.len())
-            .flat_map(|of| REFUSALS[of].iter().map(move |&number| (of, number)))
+            .flat_map(|of| [&[0], REFUSALS[of]].concat().into_iter().map(move |number| (of, number)))
             .filter(|&(of, number)| !given(of, number))
             .map(|(of, number)| format!("{} {number}", CALLS[of]))
             .collect();
+        if self.early == 0 || self.late == 0 {
+            missing.push("frames that fail before their last node, and at it".to_string());
+        }
         if self.above == 0 {
             missing.push(format!("a sum above {ENTRIES}"));
         }
@@ -104,6 +114,7 @@ impl Report {
             self.foreign,
             self.lists as f64 / seconds
         );
+        println!("frames that fail before their last node: {}, at it: {}", self.early, self.late);
         println!("{}; sums above {ENTRIES}: {}", self.journals.text(), self.above);
         let missing = self.missing();
         println!("not reached: {}", if missing.is_empty() { "none".to_string() } else { missing.join(", ") });
@@ -112,7 +123,7 @@ impl Report {
 
     fn print_answers(&self) {
         println!("answers that agreed, in brackets those also compared with demand 3's machine:");
-        let line = |columns: [String; 4]| columns.iter().map(|column| format!("{column:>22}")).collect::<String>();
+        let line = |columns: [String; 5]| columns.iter().map(|column| format!("{column:>22}")).collect::<String>();
         println!("{:>8}{}", "number", line(CALLS.map(String::from)));
         for number in 0..=19 {
             let column = |of: usize| {
@@ -124,7 +135,7 @@ impl Report {
                     (all, replayed) => format!("{all} {:<10}", format!("({replayed})")),
                 }
             };
-            println!("{}", format!("{number:>8}{}", line([0, 1, 2, 3].map(column))).trim_end());
+            println!("{}", format!("{number:>8}{}", line([0, 1, 2, 3, 4].map(column))).trim_end());
         }
     }
 

@@ -18,7 +18,7 @@ impl Builder<'_> {
     }
 
     fn tried(&mut self) -> Option<[u64; 9]> {
-        match self.random.below(40) {
+        match self.random.below(42) {
             0..=4 => self.arithmetic(),
             5..=8 => self.comparison(),
             9..=13 => self.logic(),
@@ -27,8 +27,8 @@ impl Builder<'_> {
             22..=24 => self.exchange(),
             25..=27 => self.load(),
             28..=30 => self.store(),
-            31..=32 => Some(self.frame()),
-            33..=38 => self.call(),
+            31..=34 => Some(self.frame()),
+            35..=40 => self.call(),
             _ if self.careful() => Some(NOP),
             _ => Some([10, 1, 0, 0, 0, 0, 3, 0, 0]),
         }
@@ -111,13 +111,13 @@ impl Builder<'_> {
 
     fn frame(&mut self) -> [u64; 9] {
         let first = self.tables.nodes.len() / 3;
-        let most = 1 + self.random.size(7);
+        let most = 1 + self.random.size(12);
         let mut wanted = 1;
         let mut count = 0;
         while wanted > 0 {
-            let node = match self.random.below(3) {
-                0 if count + wanted + 1 < most => [2, 0, 0],
-                1 if count + wanted < most => [self.random.pick(&[1, 5]), 0, 0],
+            let node = match self.random.below(4) {
+                0..=1 if count + wanted + 1 < most => [2, 0, 0],
+                2 if count + wanted < most => [self.random.pick(&[1, 5]), 0, 0],
                 _ => self.leaf(),
             };
             wanted = match node[0] {

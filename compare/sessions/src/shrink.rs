@@ -78,6 +78,9 @@ fn plainer_action<'a>(list: &'a List, i: usize, action: &Action) -> Candidates<'
         Action::Position(position) => {
             changed(list, nearer(*position), move |l, position| l.actions[i] = Action::Position(position))
         }
+        Action::Frame(row) => {
+            changed(list, vec![row / 2, row.saturating_sub(1)], move |l, row| l.actions[i] = Action::Frame(row))
+        }
         _ => Box::new(std::iter::empty()),
     }
 }
@@ -91,13 +94,13 @@ fn fewer_rows(list: &List) -> Candidates<'_> {
     Box::new(rows.chain(changed(list, first, |l, ()| without_first(l))))
 }
 
-/// The first instruction taken away, with every position moved.
+/// The first instruction taken away, with every position and every frame's row moved.
 fn without_first(list: &mut List) {
     drain(&mut list.tables.instructions, 0..1, INSTRUCTION);
     list.position[0] = list.position[0].saturating_sub(1);
     for action in &mut list.actions {
-        if let Action::Position(position) = action {
-            position[0] = position[0].saturating_sub(1);
+        if let Action::Position([row, _]) | Action::Frame(row) = action {
+            *row = row.saturating_sub(1);
         }
     }
 }

@@ -7,6 +7,7 @@ use tables::{blanks, Session, Tables};
 const GUARD: usize = 4;
 
 /// Out-arrays before a call, with words that none gives: what a refusal must not write is seen to be as it was.
+const NO_LOOKED: [u64; 1] = [0xEEEE];
 const NO_ENTRIES: [u64; 1] = [0xEEEE];
 const NO_ERROR: [u64; 6] = [0xE; 6];
 
@@ -16,8 +17,9 @@ pub struct Side<'a> {
     memory: Vec<u64>,
     journal: Vec<u64>,
     pub position: [u64; 2],
+    pub looked: [u64; 1],
     pub entries: [u64; 1],
-    error: [u64; 6],
+    pub error: [u64; 6],
 }
 
 fn guarded(words: &[u64]) -> Vec<u64> {
@@ -32,7 +34,8 @@ fn lent(words: &mut [u64]) -> &mut [u64] {
 impl<'a> Side<'a> {
     pub fn new(machine: &'a dyn Session, list: &List) -> Self {
         let (memory, journal) = (guarded(&list.memory), guarded(&list.journal));
-        Side { machine, memory, journal, position: list.position, entries: NO_ENTRIES, error: NO_ERROR }
+        let (position, looked, entries) = (list.position, NO_LOOKED, NO_ENTRIES);
+        Side { machine, memory, journal, position, looked, entries, error: NO_ERROR }
     }
 
     pub fn memory(&self) -> &[u64] {
@@ -47,8 +50,9 @@ impl<'a> Side<'a> {
     pub fn act(&mut self, tables: &Tables, action: &Action) -> Option<u64> {
         let (memory, journal) = (lent(&mut self.memory), lent(&mut self.journal));
         let position = &mut self.position;
-        (self.entries, self.error) = (NO_ENTRIES, NO_ERROR);
+        (self.looked, self.entries, self.error) = (NO_LOOKED, NO_ENTRIES, NO_ERROR);
         match action {
+            Action::Frame(row) => Some(self.machine.frame(tables, *row, &mut self.looked, &mut self.error)),
             Action::JournalLength => Some(self.machine.journal_length(tables, &mut self.entries, &mut self.error)),
             Action::Open => Some(self.machine.open(tables, memory, journal, position, &mut self.error)),
             Action::Forward(reply) => Some(self.machine.forward(tables, memory, journal, position, reply)),
@@ -72,6 +76,7 @@ impl<'a> Side<'a> {
     /// The first word in which the library's side differs.
     pub fn differs(&self, library: &Side) -> Option<String> {
         words("position", &self.position, &library.position, 0)
+            .or_else(|| words("nodes looked at", &self.looked, &library.looked, 0))
             .or_else(|| words("entries", &self.entries, &library.entries, 0))
             .or_else(|| words("type error", &self.error, &library.error, 0))
             .or_else(|| words("memory", &self.memory, &library.memory, GUARD))

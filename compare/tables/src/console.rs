@@ -1,8 +1,8 @@
 //! The library as both its proved build and its unproved copies offer it.
-use crate::Tables;
+use crate::{FrameCheck, Tables};
 
 /// The public calls on lent buffers. The proved library and its unproved copies offer them alike.
-pub trait Console {
+pub trait Console: FrameCheck {
     fn check(&self, tables: &Tables, error: &mut [u64; 6]) -> u64;
 
     fn resolve(&self, tables: &Tables, row: u64, rows: &mut [u64], count: &mut [u64; 1]) -> u64;

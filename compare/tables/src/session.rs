@@ -1,8 +1,8 @@
 //! The calls of a session, and the journal's length before one, as the proved library, its unproved copies and the plain machine offer them.
-use crate::Tables;
+use crate::{FrameCheck, Tables};
 
 /// Each returns 0 or the refusal's number. A position is steps done, journal entries used.
-pub trait Session {
+pub trait Session: FrameCheck {
     /// The entries on 0, the type error on 5.
     fn journal_length(&self, tables: &Tables, entries: &mut [u64; 1], error: &mut [u64; 6]) -> u64;
 
