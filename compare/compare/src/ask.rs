@@ -14,6 +14,11 @@ pub fn ask(console: &dyn Console, tables: &Tables, query: Query) -> Result<Answe
             let number = console.check(tables, &mut error);
             Answer { number, out: error.to_vec(), lent: Vec::new() }
         }
+        Query::Frame { row } => {
+            let (mut looked, mut error) = (blanks_array(), blanks_array());
+            let number = console.frame(tables, row, &mut looked, &mut error);
+            Answer { number, out: looked.to_vec(), lent: vec![error.to_vec()] }
+        }
         Query::Resolve { row, room } => {
             let mut rows = Lent::new(room);
             let mut count = blanks_array();

@@ -71,6 +71,7 @@ impl Program {
             match row {
                 Row::Plain(_) => {}
                 Row::Frame { .. } => {
+                    queries.push(Query::Frame { row: i as u64 });
                     let walk = Query::References { first: words[2], count: words[3] };
                     if !queries.contains(&walk) {
                         queries.push(walk);

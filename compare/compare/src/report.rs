@@ -2,7 +2,7 @@
 use std::{collections::BTreeMap, io::Write, time::Instant};
 use tables::{Answer, Query};
 
-const CALLS: [&str; 4] = ["check", "resolve", "access", "memory_references"];
+const CALLS: [&str; 5] = ["check", "frame", "resolve", "access", "memory_references"];
 
 pub struct Line {
     pub set: String,
@@ -42,8 +42,8 @@ impl Report {
 
     pub fn print(&self) {
         println!(
-            "{:<10}{:>10}{:>10}{:>10}{:>10}{:>19}{:>9}",
-            "set", "programs", CALLS[0], CALLS[1], CALLS[2], CALLS[3], "differ"
+            "{:<10}{:>10}{:>10}{:>10}{:>10}{:>10}{:>19}{:>9}",
+            "set", "programs", CALLS[0], CALLS[1], CALLS[2], CALLS[3], CALLS[4], "differ"
         );
         let mut total = Line::new("all");
         for line in &self.lines {
@@ -65,8 +65,8 @@ impl Report {
 
 fn print_line(line: &Line) {
     let count = |call| line.asked.get(call).copied().unwrap_or(0);
-    let [a, b, c, d] = CALLS.map(count);
-    println!("{:<10}{:>10}{a:>10}{b:>10}{c:>10}{d:>19}{:>9}", line.set, line.programs, line.differ);
+    let [a, b, c, d, e] = CALLS.map(count);
+    println!("{:<10}{:>10}{a:>10}{b:>10}{c:>10}{d:>10}{e:>19}{:>9}", line.set, line.programs, line.differ);
 }
 
 /// What sort of answer it is: the number, a type error's kind, an argument error's case, references or none.
@@ -74,6 +74,7 @@ fn kinds(query: Query, answer: &Answer) -> Vec<String> {
     let name = query.name();
     match (query, answer.number) {
         (Query::Check, 5) => vec![format!("{name} 5, error {}", answer.out[0])],
+        (Query::Frame { .. }, 5) => vec![format!("{name} 5, error {}", answer.lent[0][0])],
         (Query::Resolve { .. }, 8) => {
             let rows = answer.out[0] as usize;
             let mut kinds = vec![format!("{name} 8")];

@@ -70,11 +70,14 @@ impl List {
         // A program of one CALL always passes the check.
         let one_call = matches!(&program.rows[..], [Row::Call { .. }]);
         for query in program.queries(&tables, self.questions % 3) {
+            let Some(call) = call(query) else {
+                continue;
+            };
             if !fits || needed(query) > MOST || (one_call && query == Query::Check) {
                 continue;
             }
             match oracle::answer(&tables, query) {
-                Ok(answer) => self.line(&tables, query, &answer),
+                Ok(answer) => self.line(call, &tables, query, &answer),
                 Err(message) => {
                     eprintln!("{message}");
                     self.failed = Some(message);
@@ -83,8 +86,8 @@ impl List {
         }
     }
 
-    fn line(&mut self, tables: &Tables, query: Query, answer: &Answer) {
-        let mut words = vec![call(query)];
+    fn line(&mut self, call: u64, tables: &Tables, query: Query, answer: &Answer) {
+        let mut words = vec![call];
         for ((_, width, table), listed) in tables.in_order().into_iter().zip(LISTED) {
             let rows: Vec<u64> = table.chunks(width).flat_map(|row| &row[..listed]).copied().collect();
             push_list(&mut words, &rows);
@@ -94,6 +97,7 @@ impl List {
                 words.push(answer.number);
                 words.extend(if answer.number == 5 { answer.out.clone() } else { vec![0; 6] });
             }
+            Query::Frame { .. } => {}
             Query::Resolve { row, room } => {
                 let (count, width) = match answer.number {
                     0 => (answer.out[0], 5),
@@ -122,12 +126,14 @@ impl List {
     }
 }
 
-fn call(query: Query) -> u64 {
+/// Its number in the list, which has no question for frame: quil-rs does not count nodes.
+fn call(query: Query) -> Option<u64> {
     match query {
-        Query::Check => 1,
-        Query::Resolve { .. } => 2,
-        Query::Access { .. } => 3,
-        Query::References { .. } => 4,
+        Query::Check => Some(1),
+        Query::Frame { .. } => None,
+        Query::Resolve { .. } => Some(2),
+        Query::Access { .. } => Some(3),
+        Query::References { .. } => Some(4),
     }
 }
 

@@ -1,4 +1,4 @@
-//! The type check's verdict, and its error as six words.
+//! The type check's verdict, on a program and on one frame, and its error as six words.
 use crate::{
     names::{mark, marked, name},
     parting,
@@ -11,6 +11,9 @@ use quil_rs::{
 use tables::{Answer, Tables};
 
 const ABSENT: u64 = 8;
+
+/// The spot of a tree's first node.
+const FIRST_NODE: u64 = 4;
 
 pub fn answer(tables: &Tables) -> Result<Answer, String> {
     let plain = program(tables, Naming::Plain)?;
@@ -28,6 +31,24 @@ pub fn answer(tables: &Tables) -> Result<Answer, String> {
         }
         (shown, marked) => Err(format!("quil-rs's two runs disagree: {shown:?}, {marked:?}")),
     }
+}
+
+/// quil-rs's verdict on the same declarations and this row alone. It counts no nodes, so the count is 02's: "the
+/// failing node's place in its tree plus 1, or the whole tree's where none fails".
+pub fn frame(tables: &Tables, row: usize) -> Result<Answer, String> {
+    let words = tables.instruction(row);
+    let (regions, nodes) = (tables.regions.clone(), tables.nodes.clone());
+    let alone = answer(&Tables { regions, nodes, instructions: words.to_vec(), ..Tables::default() })?;
+    let mut expected = Answer::untouched(alone.number, 1, &[6]);
+    expected.out[0] = words[3];
+    if alone.number == 5 {
+        let mut error = alone.out;
+        let place = error[2].checked_sub(FIRST_NODE).ok_or_else(|| format!("no node's spot in {error:?}"))?;
+        error[1] = row as u64;
+        expected.out[0] = place + 1;
+        expected.lent[0] = error;
+    }
+    Ok(expected)
 }
 
 /// Kind, row, spot, src spot and two codes, from the run with marked operands.

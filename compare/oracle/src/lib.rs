@@ -15,6 +15,7 @@ use tables::{Answer, Query, Tables};
 pub fn answer(tables: &Tables, query: Query) -> Result<Answer, String> {
     match query {
         Query::Check => check::answer(tables),
+        Query::Frame { row } => check::frame(tables, row as usize),
         Query::Resolve { row, room } => call::resolve(tables, row as usize, room),
         Query::Access { row, room } => call::access(tables, row as usize, room),
         Query::References { first, count } => expression::references(tables, first, count),

@@ -3,6 +3,10 @@
 #[derive(Clone, Copy, Debug, PartialEq)]
 pub enum Query {
     Check,
+    /// A frame's row. The out-array is the nodes looked at, the type error is a lent one.
+    Frame {
+        row: u64,
+    },
     /// The CALL's row, and the lent buffer's length.
     Resolve {
         row: u64,
@@ -48,6 +52,7 @@ impl Query {
     pub fn name(&self) -> &'static str {
         match self {
             Query::Check => "check",
+            Query::Frame { .. } => "frame",
             Query::Resolve { .. } => "resolve",
             Query::Access { .. } => "access",
             Query::References { .. } => "memory_references",
