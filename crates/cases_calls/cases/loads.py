@@ -64,13 +64,14 @@ CHOSEN = (('good', [0, 0, 2], 0, 2), ('a name twice', [0, 0, 2, 0, 3, 2], 3, 2),
 
 
 def chosen_rows(script):
-    """Row 0 is a frame, row 1 a CALL. The calls that take a row take a CALL; the look takes a family too."""
+    """Row 0 is a frame, row 1 a CALL. Frame takes a frame's row, the other calls that take one a CALL's; the look takes a family too."""
     for what, regions, fit, unfit in CHOSEN:
         script.heading(f'chosen row 0 to 11 and 2^64 - 1, regions: {what}')
         lend(script, FRAME_AND_CALL, regions, nodes=NODES, arguments=ARGUMENTS)
         for row in VALUES:
             script.resolve(row, 0)
             script.access(row, 0, 0)
+            script.frame(row)
         for family in VALUES:
             script.heading(f'chosen row 0 to 11 and 2^64 - 1 of family {family}, regions: {what}')
             for row in VALUES:

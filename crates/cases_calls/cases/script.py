@@ -136,6 +136,10 @@ class Script:
     def check(self):
         return self.call('check', 'c', lambda memory, journal: kept.check(self.tables))
 
+    def frame(self, row):
+        self.give(row)
+        return self.call('frame', 'n', lambda memory, journal: kept.frame(self.tables, row))
+
     def resolve(self, row, room):
         """Into memory of so many words."""
         def play(memory, journal):

@@ -78,8 +78,8 @@ def frame_numbers(script):
 
 
 def node(text):
-    """`r` and the like an address, `%` a variable, `i` the imaginary unit, `pi`, `f` a function call, `-` a prefix, `+` an infix."""
-    marks = {'%': [VARIABLE_NODE, 4, 0], 'i': [NUMBER, 0, ONE], 'pi': [PI, 0, 0], 'f': [FUNCTION_CALL, 0, 0], '-': [PREFIX, 0, 0], '+': [INFIX, 0, 0]}
+    """`r` and the like an address, `%` a variable, `i` the imaginary unit, `1`, `pi`, `f` a function call, `-` a prefix, `+` an infix."""
+    marks = {'%': [VARIABLE_NODE, 4, 0], 'i': [NUMBER, 0, ONE], '1': [NUMBER, ONE, 0], 'pi': [PI, 0, 0], 'f': [FUNCTION_CALL, 0, 0], '-': [PREFIX, 0, 0], '+': [INFIX, 0, 0]}
     return marks[text] if text in marks else [ADDRESS, SMALL[text[0]], int(text[1:] or 0)]
 
 

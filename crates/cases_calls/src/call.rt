@@ -27,6 +27,7 @@ fn play(
         b'f' => steps::forward(tables, memory, journal, position),
         b'b' => steps::back(tables, memory, journal, position),
         b'c' => kept::check(tables, &mut [UNWRITTEN; 6]),
+        b'n' => kept::frame(tables, &mut [UNWRITTEN; 1], &mut [UNWRITTEN; 6]),
         b'v' => kept::resolve(tables, memory, &mut [UNWRITTEN; 1]),
         b's' => kept::access(tables, memory, journal, &mut [UNWRITTEN; 2]),
         b'w' => kept::reference(tables, place, &mut [UNWRITTEN; 3]),

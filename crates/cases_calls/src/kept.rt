@@ -1,4 +1,4 @@
-// The kept calls, through their C forms, and the loader's look at a chosen row, which no call of its own shows for a family other than CALL.
+// The calls on tables alone, through their C forms, and the loader's look at a chosen row, which no call of its own shows for a family other than frame and CALL.
 use crate::lent::ARGUMENTS;
 use crate::lent::EXTERNS;
 use crate::lent::INSTRUCTIONS;
@@ -11,6 +11,7 @@ use crate::print::answered;
 use crate::print::written;
 use console_c::access::console_access;
 use console_c::check::console_check;
+use console_c::frame::console_frame;
 use console_c::reference::console_reference;
 use console_c::references::console_references;
 use console_c::resolve::console_resolve;
@@ -28,6 +29,23 @@ pub fn check(tables: &[u64], error: &mut [u64; 6]) {
         error,
     );
     answered(b"check", number);
+    written(error);
+}
+
+pub fn frame(tables: &[u64], looked: &mut [u64; 1], error: &mut [u64; 6]) {
+    let number = console_frame(
+        words_of(tables, REGIONS),
+        words_of(tables, EXTERNS),
+        words_of(tables, PARAMETERS),
+        words_of(tables, NODES),
+        words_of(tables, ARGUMENTS),
+        words_of(tables, INSTRUCTIONS),
+        given(tables, 0),
+        looked,
+        error,
+    );
+    answered(b"frame", number);
+    written(looked);
     written(error);
 }
 

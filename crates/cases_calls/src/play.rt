@@ -2,7 +2,7 @@
 // R, E, P, N, A, I n k w..: a table of n words, the k given ones over and over; G: the numbers that are given to a call.
 // M, J n k w..: memory or journal of n words, the k given ones and then marks. t, m, j i w: a word of the tables, which lie 6,150 words apart, of memory or of journal.
 // p done used: the position. k place: the place of a walk. = text: a heading up to the line feed.
-// e: journal_length. o: open. f: forward, given a reply. b: back. c: check. v: resolve, given a row, into memory. s: the access sets, given a row, into memory and journal.
+// e: journal_length. o: open. f: forward, given a reply. b: back. c: check. n: frame, given a row. v: resolve, given a row, into memory. s: the access sets, given a row, into memory and journal.
 // w: a walk's next reference, given the first node and the count; r: the next ones, into memory. l: the loader's look, given a row and its family.
 use crate::call::call;
 use crate::lent::JOURNAL;
