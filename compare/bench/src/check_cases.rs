@@ -48,16 +48,16 @@ pub fn all() -> Vec<Case> {
     cases
 }
 
-/// A frame whose left leaf fails, by both calls; and the same behind a row that fails, where the frame is not judged: what
-/// `check` costs less there is the frame's own check.
+/// A frame whose left leaf fails, by both calls; and the same behind a row that fails, where the frame is not judged. What
+/// `check` costs less there is the frame's own check less that row's: it must not grow with the right side.
 fn left_fails(right: u64) -> [Case; 3] {
     let mut tables = inputs::regions(8, 8);
     inputs::left_fails(&mut tables, right);
-    let input = format!("frame: its left leaf fails, {right} nodes on the right");
+    let input = format!("a frame whose left leaf fails, {right} nodes on the right");
     let alone = frame(input.clone(), tables.clone());
     let whole = case(input, tables.clone(), false);
     inputs::fail_first(&mut tables);
-    [alone, whole, case(format!("the same frame, {right} nodes on the right, behind a row that fails"), tables, false)]
+    [alone, whole, case(format!("the same frame behind a row that fails, {right} nodes on the right"), tables, false)]
 }
 
 /// Two nodes are looked at: the infix and its left leaf.

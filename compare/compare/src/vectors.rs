@@ -97,7 +97,7 @@ impl List {
                 words.push(answer.number);
                 words.extend(if answer.number == 5 { answer.out.clone() } else { vec![0; 6] });
             }
-            Query::Frame { .. } => {}
+            Query::Frame { .. } => unreachable!("no question of the list"),
             Query::Resolve { row, room } => {
                 let (count, width) = match answer.number {
                     0 => (answer.out[0], 5),

@@ -3,7 +3,7 @@
 #[derive(Clone, Copy, Debug, PartialEq)]
 pub enum Query {
     Check,
-    /// A frame's row. The out-array is the nodes looked at, the type error is a lent one.
+    /// A frame's row. Of the two out-arrays the count is `out`, the type error stands in `lent`.
     Frame {
         row: u64,
     },

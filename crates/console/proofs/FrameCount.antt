@@ -1,5 +1,5 @@
 -- What the call tells of the nodes looked at, as specs/Frame.antt claims it. Assumes nothing.
-use Prim.Native.Nat.{ℕ, _+_}
+use Prim.Native.Nat.{ℕ}
 use mathlib.Core.Path.{_≡_}
 use native.Mathlib.Omega.{arith}
 use Rattle.tables.specs.Outcome.{Outcome, ok, refuse}

@@ -4,8 +4,7 @@ use mathlib.Core.List.{List}
 use mathlib.Core.Logic.{⊎-elim}
 use mathlib.Core.Path.{_≡_, sym, _∙_}
 use native.Mathlib.Omega.{arith}
-use Rattle.tables.specs.Rows.{nodeAt}
-use Rattle.type_check.specs.Frame.{nodeVerdict, atPlace, treeVerdict}
+use Rattle.type_check.specs.Frame.{atPlace, verdictThere, treeVerdict}
 use Rattle.type_check.specs.declared.frame.NodeError.{NodeError}
 use Rattle.type_check.specs.declared.frame.NodeVerdict.{NodeVerdict}
 use Rattle.type_check.specs.declared.frame.NodeVerdict.the-variants.{Real, Fails}
@@ -21,7 +20,7 @@ unfolding treeVerdict
 place-below regions nodes root count {place} {e} q =
     ⊎-elim
     (λ h.
-    let s : place ≡ h .row = same-place (nodeVerdict regions (nodeAt nodes (root + h .row))) (sym q ∙ h .is) in
+    let s : place ≡ h .row = same-place (verdictThere regions nodes root (h .row)) (sym q ∙ h .is) in
     let b : h .row < 0 + count = h .below in
     omega arith)
     (λ m. let z : _≡_ {A = ℕ} 0 1 = cc in absurd (omega arith))

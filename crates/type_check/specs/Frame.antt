@@ -50,7 +50,7 @@ abbrev pub atPlace : ℕ → NodeVerdict → TreeVerdict
 atPlace place Real = AllReal
 atPlace place (Fails e) = FailsAt place e
 
--- the node at a place of the tree whose first row is `root`
+-- of the node at a place of the tree whose first row is `root`
 abbrev pub verdictThere : List ℕ → List ℕ → ℕ → ℕ → NodeVerdict
 verdictThere regions nodes root place = nodeVerdict regions (nodeAt nodes (root + place))
 

@@ -21,12 +21,12 @@ lookedFrom regions nodes root place (suc n) =
 abbrev pub lookedIn : List ℕ → List ℕ → ℕ → ℕ → ℕ
 lookedIn regions nodes root count = lookedFrom regions nodes root 0 count
 
--- "the failing node's place in its tree plus 1, or the whole tree's where none fails"
+-- 02: "the failing node's place in its tree plus 1, or the whole tree's where none fails"
 abbrev pub placePlusOneOr : TreeVerdict → ℕ → ℕ
 placePlusOneOr (FailsAt place e) count = place + 1
 placePlusOneOr AllReal count = count
 
--- "Proved: the count is the failing node's place in its tree plus 1, or the whole tree's where none fails."
+-- 02: "Proved: the count is the failing node's place in its tree plus 1, or the whole tree's where none fails."
 abbrev pub LookedIs : Type 0
 LookedIs =
     (regions nodes : List ℕ) (root count : ℕ)
@@ -37,7 +37,7 @@ abbrev pub treeCheck : List ℕ → List ℕ → ℕ → ℕ → TreeCheck
 treeCheck regions nodes root count =
     record { verdict = treeVerdict regions nodes root count; looked = lookedIn regions nodes root count }
 
--- a frame's: "words 3 and 4 (counting from 1) are first node and node count"
+-- a frame's; 01: "words 3 and 4 (counting from 1) are first node and node count"
 unfoldable pub frameCheck : List ℕ → List ℕ → ℕ → Instruction → FrameCheck
 frameCheck regions nodes row x =
     record {

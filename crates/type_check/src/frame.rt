@@ -1,7 +1,7 @@
 // A frame's expression: each of its nodes must be real.
 // Translated from quil-rs, program/type_check.rs (Apache-2.0), and changed: see NOTICE.
 ghost use mathlib.Core.Path.{_≡_};
-ghost use Prim.Native.Nat.{_+_, _<_, _≤_};
+ghost use Prim.Native.Nat.{_+_, _≤_};
 ghost use Rattle.tables.specs.Rows.{nodeRows};
 ghost use Rattle.type_rules.specs.Judgement.{verdictAt};
 ghost use Rattle.type_rules.specs.Codes.{codeOf};
