@@ -6,6 +6,8 @@
 /^#\[no_mangle\]$/d
 /^pub \(struct\|enum\) /i\
 #[derive(Clone, Copy)]
+s/let \([A-Za-z_]*::[A-Za-z_]*\)(_) = \(.*\) else {/if let \1(_) = \2 {} else {/
+t
 s/let \([A-Za-z_]*::[A-Za-z_]*\)(\([a-z_, ]*\)) = \(.*\) else {/let (\2) = if let \1(\2) = \3 { (\2) } else {/
 s/std::num::\(wrapping_[a-z]*\)_u64(/u64::\1(/
 s/^pub extern "C" fn /pub fn /

@@ -63,6 +63,16 @@ console_calls! {
         journal_length: usize,
         position: *mut u64
     );
+
+    fn console_run(
+        memory: *mut u64,
+        memory_length: usize,
+        journal: *mut u64,
+        journal_length: usize,
+        position: *mut u64,
+        allowance: u64,
+        ran: *mut u64
+    );
 }
 
 extern "C" {

@@ -96,6 +96,32 @@ pub enum Instruction {
     Nop,
     /// Family 10, operator 1: any other instruction. It is checked, and never stepped.
     AnyOther,
+    /// Family 11: to the LABEL's row.
+    Jump {
+        /// Where to.
+        label: u64,
+    },
+    /// Family 12: to the LABEL's row if the condition, a BIT, is 1.
+    JumpWhen {
+        /// Where to.
+        label: u64,
+        /// What is asked.
+        condition: MemoryReference,
+    },
+    /// Family 13: to the LABEL's row if the condition, a BIT, is 0.
+    JumpUnless {
+        /// Where to.
+        label: u64,
+        /// What is asked.
+        condition: MemoryReference,
+    },
+    /// Family 14: where jumps go. It does nothing.
+    Label {
+        /// Any number that no other LABEL has; a region or an extern may have it.
+        label: u64,
+    },
+    /// Family 15: to the program's end.
+    Halt,
 }
 
 /// The last operand of an instruction.
@@ -139,6 +165,11 @@ impl Instruction {
             }
             Nop => words(10, 0, [0; 4], NO_SOURCE),
             AnyOther => words(10, 1, [0; 4], NO_SOURCE),
+            Jump { label } => words(11, 0, [0, 0, label, 0], NO_SOURCE),
+            JumpWhen { label, condition } => words(12, 0, two(condition, region(label)), NO_SOURCE),
+            JumpUnless { label, condition } => words(13, 0, two(condition, region(label)), NO_SOURCE),
+            Label { label } => words(14, 0, [0, 0, label, 0], NO_SOURCE),
+            Halt => words(15, 0, [0; 4], NO_SOURCE),
         }
     }
 }
@@ -156,7 +187,7 @@ fn two(first: MemoryReference, second: MemoryReference) -> [u64; 4] {
     [first.name, first.index, second.name, second.index]
 }
 
-/// A region operand's index is 0.
+/// A region operand's index, and a label's, is 0.
 fn region(name: u64) -> MemoryReference {
     MemoryReference { name, index: 0 }
 }

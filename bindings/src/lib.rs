@@ -5,7 +5,8 @@
 //!   each with `row()`, its words; [`Tables`] lends them, `Program` (feature `std`) collects them.
 //! - Calls on the tables: [`check`], [`frame`], [`resolve`], [`access`], [`journal_length`]; on an expression:
 //!   [`Walk::memory_references`].
-//! - A session: [`Session::open`], [`forward`](Session::forward), [`back`](Session::back), [`reset`](Session::reset).
+//! - A session: [`Session::open`], [`forward`](Session::forward), [`back`](Session::back), [`run`](Session::run),
+//!   [`reset`](Session::reset).
 //! - [`raw`] is the C interface as it is.
 //!
 //! An enum that is read from the library's words has a last case `Unknown`, which keeps a word (or a row) that this
@@ -45,6 +46,7 @@ pub mod raw;
 mod refusal;
 mod resolve;
 mod rows;
+mod run;
 mod session;
 pub mod sizes;
 mod tables;
@@ -66,6 +68,7 @@ pub use raw::flattened;
 pub use refusal::{Mender, Refusal};
 pub use resolve::{resolve, CallArgumentErrors, ResolvedCallArguments, Unresolved};
 pub use rows::{Extern, Node, Parameter, Region, Shape};
+pub use run::{Ran, Stop};
 pub use session::{Cell, Position, Reply, Session};
 pub use tables::Tables;
 pub use type_error::{Code, Spot, TypeError, TypeErrorKind};

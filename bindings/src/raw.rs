@@ -104,7 +104,7 @@ pub fn open(
     tables: &Tables,
     memory: &mut [u64],
     journal: &[u64],
-    position: &mut [u64; 2],
+    position: &mut [u64; 3],
     error: &mut [u64; 6],
 ) -> u64 {
     with_tables!(
@@ -125,7 +125,7 @@ pub fn forward(
     tables: &Tables,
     memory: &mut [u64],
     journal: &mut [u64],
-    position: &mut [u64; 2],
+    position: &mut [u64; 3],
     reply: &[u64],
 ) -> u64 {
     with_tables!(
@@ -143,7 +143,7 @@ pub fn forward(
 
 /// The last step taken back. It writes `memory` and the new `position` on 0.
 #[inline]
-pub fn back(tables: &Tables, memory: &mut [u64], journal: &[u64], position: &mut [u64; 2]) -> u64 {
+pub fn back(tables: &Tables, memory: &mut [u64], journal: &[u64], position: &mut [u64; 3]) -> u64 {
     with_tables!(
         console_back,
         tables,
@@ -152,6 +152,30 @@ pub fn back(tables: &Tables, memory: &mut [u64], journal: &[u64], position: &mut
         journal.as_ptr(),
         journal.len(),
         position.as_mut_ptr()
+    )
+}
+
+/// Steps with empty replies, at most `allowance` of them. It writes on 0 `memory`, `journal`, the new `position`, and
+/// `ran`: steps taken, which stop (0 allowance, 1 end, 2 before a CALL, 3 refusal), the refusal's number or 0.
+#[inline]
+pub fn run(
+    tables: &Tables,
+    memory: &mut [u64],
+    journal: &mut [u64],
+    position: &mut [u64; 3],
+    allowance: u64,
+    ran: &mut [u64; 3],
+) -> u64 {
+    with_tables!(
+        console_run,
+        tables,
+        memory.as_mut_ptr(),
+        memory.len(),
+        journal.as_mut_ptr(),
+        journal.len(),
+        position.as_mut_ptr(),
+        allowance,
+        ran.as_mut_ptr()
     )
 }
 

@@ -68,6 +68,8 @@ refusals! {
     17 UnfitReply "the reply does not fit the CALL, or there is one and the row is no CALL",
     18 NoRule "a cell that is read has no rule: its kind or its word is foreign; or a name is not declared",
     19 ForeignPosition "the position lies past its tables, or the journal cannot be read",
+    20 UnfitLabels "a label stands on two LABEL rows, or a jump goes to a label that stands on none",
+    21 ConditionNotBit "the condition of a jump is not declared, or not BIT",
 }
 
 /// Who can mend what was turned down.
@@ -100,6 +102,7 @@ impl Refusal {
             14..=16 => Mender::RunningProgram,
             17 => Mender::ExternRoutine,
             18..=19 => Mender::ForeignWriter,
+            20..=21 => Mender::Author,
             _ => Mender::Unknown,
         }
     }
@@ -153,7 +156,7 @@ mod tests {
     /// Causes and menders in the words of the page of refusals.
     #[test]
     fn words_of_the_page() {
-        for number in 1..=19 {
+        for number in 1..=21 {
             let refusal = Refusal::with_error(number, [0; 6]);
             let (cause, mender) = (refusal.cause(), refusal.mender());
             let lines = format!("## {number}\n\n- Cause: {cause}.\n- Mended by: {mender}.\n");

@@ -1,4 +1,4 @@
-use crate::{raw, sizes, Kind, MemoryReference, Refusal, Tables};
+use crate::{raw, sizes, Kind, MemoryReference, Ran, Refusal, Stop, Tables};
 use core::fmt;
 
 /// A session on a program: its tables, memory, journal and position, kept together. While it lives nothing else can
@@ -26,7 +26,9 @@ pub struct Session<'a> {
 #[derive(Clone, Copy, Debug, Default, PartialEq, Eq)]
 #[non_exhaustive]
 pub struct Position {
-    /// Instructions done: the row that the next forward takes.
+    /// The row that the next forward takes; at the end the number of rows.
+    pub row: u64,
+    /// Steps done and not taken back. In a loop they may be more than the rows.
     pub done: u64,
     /// Journal entries used.
     pub used: u64,
@@ -59,7 +61,7 @@ impl<'a> Session<'a> {
     /// cell, `journal` three an entry; [`sizes::MEMORY_WORDS`](crate::sizes::MEMORY_WORDS) and
     /// [`sizes::JOURNAL_WORDS`](crate::sizes::JOURNAL_WORDS) always fit, and
     /// [`journal_length`](crate::journal_length) is how many entries are enough.
-    /// Refusals in order: 1, 2, 3, 10, 4, 5, 9, then 6, 7, 8 by row.
+    /// Refusals in order: 1, 2, 3, 10, 4, 5, 9, 20, 21, then 6, 7, 8 by row.
     pub fn open(tables: Tables<'a>, memory: &'a mut [u64], journal: &'a mut [u64]) -> Result<Session<'a>, Refusal> {
         let mut session = Session { tables, memory, journal, position: Position::default() };
         session.reset()?;
@@ -68,7 +70,7 @@ impl<'a> Session<'a> {
 
     /// Back to the program's start. What open accepted is not refused here.
     pub fn reset(&mut self) -> Result<Position, Refusal> {
-        let (mut position, mut error) = ([0; 2], [0; 6]);
+        let (mut position, mut error) = ([0; 3], [0; 6]);
         match raw::open(&self.tables, self.memory, self.journal, &mut position, &mut error) {
             0 => Ok(self.moved(position)),
             number => Err(Refusal::with_error(number, error)),
@@ -91,6 +93,36 @@ impl<'a> Session<'a> {
         let mut position = self.position.words();
         match raw::back(&self.tables, self.memory, self.journal, &mut position) {
             0 => Ok(self.moved(position)),
+            number => Err(Refusal::of_number(number)),
+        }
+    }
+
+    /// Steps until one of the [`Stop`]s, at most `allowance` of them: what so many forwards with `&[]` leave. A stop is
+    /// an answer and keeps the steps taken, also where a step's refusal is the stop; an allowance of 0 changes nothing.
+    /// After an accepted open it is not refused.
+    ///
+    /// ```
+    /// use mugwortlatch::{flattened, Instruction, Refusal, Session, Stop, Tables};
+    ///
+    /// // LABEL @5
+    /// // JUMP @5
+    /// let instructions = [Instruction::Label { label: 5 }, Instruction::Jump { label: 5 }].map(Instruction::row);
+    /// let tables = Tables { instructions: flattened(&instructions), ..Tables::default() };
+    /// let mut journal = [0; 300];
+    /// let mut session = Session::open(tables, &mut [], &mut journal)?;
+    /// let ran = session.run(99)?;
+    /// assert_eq!((ran.steps, ran.stop, ran.position.row), (99, Stop::Allowance, 1));
+    /// let ran = session.run(99)?;
+    /// assert_eq!((ran.steps, ran.stop), (1, Stop::Refusal(Refusal::JournalFull)));
+    /// # Ok::<(), Refusal>(())
+    /// ```
+    pub fn run(&mut self, allowance: u64) -> Result<Ran, Refusal> {
+        let (mut position, mut ran) = (self.position.words(), [0; 3]);
+        match raw::run(&self.tables, self.memory, self.journal, &mut position, allowance, &mut ran) {
+            0 => {
+                let [steps, stop, number] = ran;
+                Ok(Ran { steps, stop: Stop::of_words(stop, number), position: self.moved(position) })
+            }
             number => Err(Refusal::of_number(number)),
         }
     }
@@ -124,15 +156,15 @@ impl<'a> Session<'a> {
         }
     }
 
-    fn moved(&mut self, [done, used]: [u64; 2]) -> Position {
-        self.position = Position { done, used };
+    fn moved(&mut self, [row, done, used]: [u64; 3]) -> Position {
+        self.position = Position { row, done, used };
         self.position
     }
 }
 
 impl Position {
-    const fn words(self) -> [u64; 2] {
-        [self.done, self.used]
+    const fn words(self) -> [u64; 3] {
+        [self.row, self.done, self.used]
     }
 }
 

@@ -57,7 +57,7 @@ pub fn row<const WIDTH: usize>(words: &[u64]) -> [u64; WIDTH] {
 #[cfg(test)]
 mod tests {
     use super::{first, row};
-    use crate::{CallArgumentError, ResolvedCallArgument, TypeError, UnresolvedCallArgument};
+    use crate::{CallArgumentError, ResolvedCallArgument, Stop, TypeError, UnresolvedCallArgument};
     use std::string::ToString;
 
     const WORDS: [u64; 8] = [0, 1, 2, 3, 4, 7, 12, u64::MAX];
@@ -73,6 +73,7 @@ mod tests {
         rows::<6>().for_each(|words| assert_ne!(TypeError::of_words(words).to_string(), ""));
         rows::<7>().for_each(|words| assert_ne!(CallArgumentError::of_row(&words).to_string(), ""));
         rows::<5>().for_each(|words| assert_ne!(std::format!("{:?}", ResolvedCallArgument::of_row(&words)), ""));
+        rows::<2>().for_each(|words| assert_ne!(Stop::of_words(words[0], words[1]).to_string(), ""));
         rows::<3>().for_each(|words| assert_eq!(UnresolvedCallArgument::of_row(words).row(), words));
         assert!(matches!(ResolvedCallArgument::of_row(&[]), ResolvedCallArgument::Unknown(_)));
     }

@@ -122,7 +122,7 @@ fn exchange_with_itself() {
         assert_eq!(session.memory(), before);
         position(session)
     });
-    assert_eq!(done, Ok((1, 3)));
+    assert_eq!(done, Ok((1, 1, 3)));
 }
 
 #[test]
@@ -132,7 +132,7 @@ fn journal_of_two() {
         steps(session, 1);
         assert_eq!(session.forward(&[]), Err(Refusal::JournalFull));
         assert!(session.back().is_ok());
-        assert_eq!(position(session), (0, 0));
+        assert_eq!(position(session), (0, 0, 0));
         steps(session, 1);
         word(session, at(N, 0))
     });

@@ -103,6 +103,8 @@ fn numbers_of_refusals() {
         UnfitReply,
         NoRule,
         ForeignPosition,
+        UnfitLabels,
+        ConditionNotBit,
     ];
     // A cause of more than a line is strings one after another in C.
     let header: String = HEADER.split('"').filter(|part| !part.trim().is_empty() || !part.contains('\n')).collect();

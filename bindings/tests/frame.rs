@@ -207,13 +207,13 @@ fn refusals_in_order() {
 #[test]
 fn no_other_family() {
     let form = |family| match family {
-        3 | 5 | 9 | 10 => 3,
+        3 | 5 | 9..=15 => 3,
         6 => 2,
         _ => 0,
     };
-    let mut rows: Vec<Row> = (0..=10).map(|family| [family, 0, 0, 0, 0, 0, form(family), 0, 0]).collect();
+    let mut rows: Vec<Row> = (0..=15).map(|family| [family, 0, 0, 0, 0, 0, form(family), 0, 0]).collect();
     rows[8] = set_phase(2, 3);
     let tables = Tables { nodes: flattened(&NODES), ..bench(&rows) };
     let expected = |row| if row == 8 { passed(3) } else { REFUSED_2 };
-    (0..=10).for_each(|row| assert_eq!(asked(&tables, row), expected(row), "{row}"));
+    (0..=15).for_each(|row| assert_eq!(asked(&tables, row), expected(row), "{row}"));
 }

@@ -24,7 +24,7 @@ fn tables(instructions: &[Row]) -> Tables<'_> {
     Tables { externs: &EXTERNS, parameters: &PARAMETERS, arguments: &ARGUMENTS, nodes: &NODES, ..bench(instructions) }
 }
 
-/// A row of every family that is stepped, and the entries counted for it.
+/// A row of every family that is stepped and may use all that is counted for it, and that number.
 fn families() -> [(Row, usize); 11] {
     let (n, equal) = (at(N, 0), ComparisonOperator::Equal);
     [
@@ -44,7 +44,7 @@ fn families() -> [(Row, usize); 11] {
 
 /// A forward; where it comes to a CALL, with a reply of so many rows.
 fn press(session: &mut Session, reply_rows: usize) -> Result<(), Refusal> {
-    let row = session.position().done as usize * sizes::INSTRUCTION_WIDTH;
+    let row = session.position().row as usize * sizes::INSTRUCTION_WIDTH;
     let called = session.tables().instructions.get(row) == Some(&9);
     let reply = Reply { argument: 0, offset: 0, kind: Kind::Integer, word: 9 }.row();
     session.forward(&vec![reply; if called { reply_rows } else { 0 }]).map(|_| ())
@@ -72,6 +72,18 @@ fn each_family_and_all() {
     exactly(&families().map(|(row, _)| row), 84);
     assert_eq!(journal_length(&tables(&[])), Ok(0));
     assert_eq!(journal_length(&Tables::default()), Ok(0));
+}
+
+/// A jump, LABEL and HALT are counted 2 and use 1.
+#[test]
+fn jumps() {
+    let rows = [jump_when(5, at(A, 0)), jump(5), jump_unless(5, at(A, 0)), label(5), Instruction::Halt.row()];
+    assert_eq!(journal_length(&tables(&rows)), Ok(10));
+    let used = session(tables(&rows), 10, |session| {
+        steps(session, 4);
+        position(session)
+    });
+    assert_eq!(used, Ok((5, 4, 4)));
 }
 
 /// Each list of seven keys: back, or forward with a reply of none, one or 64 rows.
@@ -136,6 +148,8 @@ fn refusals() {
     assert_eq!(refused(with_regions(&[A, 0, 4_097], &[mistyped])), 10);
     assert_eq!(refused(tables(&[other, mistyped])), 5);
     assert_eq!(refused(tables(&[absent, other])), 9);
+    assert_eq!(refused(tables(&[absent, jump(5)])), 20);
+    assert_eq!(refused(tables(&[absent, label(5), jump_when(5, at(N, 0))])), 21);
     assert_eq!(refused(tables(&[absent, unfit])), 6);
     assert_eq!(refused(tables(&[count, absent])), 7);
     assert_eq!(refused(tables(&[unfit, absent])), 8);

@@ -1,4 +1,4 @@
-//! Every refusal of open, forward and back, each by the smallest input at hand, and that it changes nothing.
+//! Every refusal of open, forward, back and run, each by the smallest input at hand, and that it changes nothing.
 mod bench;
 
 use bench::*;
@@ -74,6 +74,20 @@ fn author() {
     assert_eq!(opened(Tables { regions: &[A, 0, 4_097], ..Tables::default() }), 10);
 }
 
+/// 20 after 9, 21 after 20 and before 6; the check passes both.
+#[test]
+fn author_of_jumps() {
+    let (twice, absent) = ([label(5), label(5)], [jump(5), label(6)]);
+    let conditions = [at(N, 0), at(Q, 0)].map(|condition| [label(5), jump_when(5, condition)]);
+    assert_eq!(opened(bench(&twice)), 20);
+    assert_eq!(opened(bench(&absent)), 20);
+    conditions.iter().for_each(|rows| assert_eq!((opened(bench(rows)), check(&bench(rows))), (21, Ok(()))));
+    assert_eq!(opened(bench(&[label(5), label(5), Instruction::AnyOther.row()])), 9);
+    assert_eq!(opened(bench(&[jump_unless(5, at(N, 0))])), 20);
+    assert_eq!(opened(bench(&[call(Q, 0, 0), label(5), jump_unless(5, at(N, 0))])), 21);
+    assert_eq!(opened(bench(&[call(Q, 0, 0), label(5), jump_unless(5, at(A, 0))])), 6);
+}
+
 #[test]
 fn student() {
     let nop = [Instruction::Nop.row()];
@@ -111,9 +125,9 @@ fn extern_routine() {
         assert_eq!(tried(session, &[reply(2, Kind::Octet)]), 17);
         assert_eq!(tried(session, &[reply(2, Kind::Integer); sizes::REPLY_LIMIT + 1]), 17);
         assert_eq!(tried(session, &[reply(2, Kind::Integer)]), 0);
-        assert_eq!((position(session), word(session, at(N, 2))), ((1, 2), 9));
+        assert_eq!((position(session), word(session, at(N, 2))), ((1, 1, 2), 9));
         assert!(session.back().is_ok());
-        assert_eq!((position(session), word(session, at(N, 2))), ((0, 0), 0));
+        assert_eq!((position(session), word(session, at(N, 2))), ((0, 0, 0), 0));
         tried(session, &[reply(2, Kind::Integer); sizes::REPLY_LIMIT])
     });
     assert_eq!(last, Ok(0));
@@ -124,19 +138,49 @@ fn extern_routine() {
 fn foreign_writer() {
     let rows = [logic(BinaryOperator::Shl, at(O, 0), 1)];
     let tables = bench(&rows);
-    let (mut memory, mut journal, mut position) = ([0; CELLS * 2], [0; 12], [9; 2]);
+    let (mut memory, mut journal, mut position) = ([0; CELLS * 2], [0; 12], [9; 3]);
     assert_eq!(raw::open(&tables, &mut memory, &journal, &mut position, &mut [0; 6]), 0);
-    assert_eq!(position, [0, 0]);
+    assert_eq!(position, [0, 0, 0]);
     memory[tables.cell_of(at(O, 0)).unwrap() * 2 + 1] = 256;
     assert_eq!(raw::forward(&tables, &mut memory, &mut journal, &mut position, &[]), 18);
-    assert_eq!(raw::forward(&tables, &mut memory, &mut journal, &mut [2, 0], &[]), 19);
-    assert_eq!(raw::back(&tables, &mut memory, &journal, &mut [1, 0]), 19);
+    for mut foreign in [[2, 0, 0], [0, 1, 0], [0, 0, 5]] {
+        assert_eq!(raw::forward(&tables, &mut memory, &mut journal, &mut foreign, &[]), 19);
+        assert_eq!(raw::back(&tables, &mut memory, &journal, &mut foreign), 19);
+        let mut ran = [9; 3];
+        assert_eq!(raw::run(&tables, &mut memory, &mut journal, &mut foreign, 1, &mut ran), 19);
+        assert_eq!(ran, [9; 3]);
+    }
+    // A closing entry whose row the program does not have.
+    journal[1] = 1;
+    assert_eq!(raw::back(&tables, &mut memory, &journal, &mut [1, 1, 1]), 19);
+    journal[1] = 0;
+    assert_eq!(raw::back(&tables, &mut memory, &journal, &mut [1, 1, 1]), 0);
+}
+
+/// Run's own refusals are forward's up to 19, and come before the allowance.
+#[test]
+fn run() {
+    let refused = |tables: Tables, memory: usize, journal: usize| {
+        let (mut memory, mut journal, mut position, mut ran) = (vec![7; memory], vec![7; journal], [0; 3], [9; 3]);
+        let number = raw::run(&tables, &mut memory, &mut journal, &mut position, 0, &mut ran);
+        assert_eq!((position, ran), ([0; 3], if number == 0 { [0; 3] } else { [9; 3] }));
+        number
+    };
+    let (good, words) = (bench(&[]), CELLS * sizes::CELL_WIDTH);
+    assert_eq!(refused(Tables { regions: &good.regions[1..], ..good }, 0, 2), 1);
+    assert_eq!(refused(Tables { regions: &[A, 4, 4_097], ..good }, 0, 2), 2);
+    assert_eq!(refused(Tables { regions: &[A, 0, 4_097, A, 1, 1], ..good }, 0, 2), 3);
+    assert_eq!(refused(Tables { regions: &[A, 0, 4_097], ..good }, 0, 2), 10);
+    assert_eq!(refused(good, words - 1, 3), 4);
+    assert_eq!(refused(good, words, 2), 4);
+    assert_eq!(refused(good, words, 3), 0);
 }
 
 #[test]
 fn causes_and_menders() {
     assert_eq!(Refusal::JournalFull.mender(), Mender::Student);
     assert_eq!(Refusal::ForeignPosition.mender(), Mender::ForeignWriter);
+    assert_eq!([Refusal::UnfitLabels, Refusal::ConditionNotBit].map(Refusal::mender), [Mender::Author; 2]);
     assert_eq!(Refusal::AtEnd.to_string(), "refused 11: the program is at its end");
     assert_eq!(Refusal::Unknown(99).to_string(), "refused 99: the cause is unknown to this version");
     assert_eq!(Refusal::Unknown(99).mender(), Mender::Unknown);

@@ -62,6 +62,11 @@ fn instructions() {
         (Call { name: 10, first_argument: 5, argument_count: 6 }, [9, 0, 10, 5, 6, 0, 3, 0, 0]),
         (Nop, [10, 0, 0, 0, 0, 0, 3, 0, 0]),
         (AnyOther, [10, 1, 0, 0, 0, 0, 3, 0, 0]),
+        (Jump { label: 20 }, [11, 0, 0, 0, 20, 0, 3, 0, 0]),
+        (JumpWhen { label: 20, condition: A }, [12, 0, 10, 1, 20, 0, 3, 0, 0]),
+        (JumpUnless { label: 20, condition: A }, [13, 0, 10, 1, 20, 0, 3, 0, 0]),
+        (Label { label: 20 }, [14, 0, 0, 0, 20, 0, 3, 0, 0]),
+        (Halt, [15, 0, 0, 0, 0, 0, 3, 0, 0]),
     ];
     rows.into_iter().for_each(|(instruction, row)| assert_eq!(instruction.row(), row, "{instruction:?}"));
 }

@@ -36,11 +36,11 @@ fn back_and_reset() {
     let last = session(bench(&rows), 8, |session| {
         let opened = session.memory().to_vec();
         steps(session, 3);
-        assert_eq!((position(session), word(session, at(N, 0))), ((3, 6), 11));
+        assert_eq!((position(session), word(session, at(N, 0))), ((3, 3, 6), 11));
         assert!(session.back().is_ok());
-        assert_eq!((position(session), word(session, at(N, 0))), ((2, 4), 10));
+        assert_eq!((position(session), word(session, at(N, 0))), ((2, 2, 4), 10));
         assert!(session.reset().is_ok());
-        assert_eq!((position(session), session.memory()), ((0, 0), &opened[..]));
+        assert_eq!((position(session), session.memory()), ((0, 0, 0), &opened[..]));
         assert_eq!(session.back(), Err(Refusal::NothingToTakeBack));
         steps(session, 3);
         word(session, at(N, 0))

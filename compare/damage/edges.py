@@ -46,8 +46,22 @@ nodes / number 0x7FF0000000000001 0x0
 nodes / 7 - 1
 nodes / 7 a -
 arguments / 3 - 1
+instructions / 16 1 - - - 2 - - 5
+instructions / 16 1 a - - - - - -
 instructions / 11 1 - - - 2 - - 5
 instructions / 11 1 a - - - - - -
+instructions / 11 - - - a - - - -
+instructions / 15 0 0 0 0 0 3 0 0
+instructions / JUMP - - a - none - -
+instructions / JUMP a 0 a - none - -
+instructions / JUMP-WHEN a 0 a - none - -
+instructions / JUMP-UNLESS a - a 0 none - -
+instructions / LABEL - - 7 5 none - -
+instructions / HALT - - - - none - -
+instructions / HALT - - a - none - -
+instructions / LABEL - - label - none - -
+regions / Halt BIT 1
+regions / jump-when BIT 1
 instructions / 4 - 0 0 - - integer 5 -
 instructions / 0 - 0 0 - - integer 5 -
 instructions / 0 ADD 0 0 - - integer 5 -
@@ -59,6 +73,9 @@ cell 0 none 2
 cell 0 9 2
 entry 0 1 2 -
 position 0
+position 0 1
+position 0 1 2
+position 0 1 2 3
 '''
 
 EDGES = [text.encode() for text in [

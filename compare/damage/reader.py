@@ -30,7 +30,12 @@ LOAD
 STORE
 SET-FREQUENCY SET-PHASE SET-SCALE SHIFT-FREQUENCY SHIFT-PHASE
 CALL
-NOP OTHER'''.split('\n')]
+NOP OTHER
+JUMP
+JUMP-WHEN
+JUMP-UNLESS
+LABEL
+HALT'''.split('\n')]
 OPERATIONS = {word: (family, operator) for family, words in enumerate(FAMILIES) for operator, word in enumerate(words)}
 
 RESERVED = {word.lower() for words in [HEADINGS, OTHER_LINES, OPERATIONS, *LISTS.values()] for word in words}
@@ -48,8 +53,13 @@ OPERANDS = {
     8: ['whole', 'whole'] + NONE,
     9: CELL + ['whole', 'unused'],
     10: NONE + NONE,
+    11: NONE + REGION,
+    12: CELL + REGION,
+    13: CELL + REGION,
+    14: NONE + REGION,
+    15: NONE + NONE,
 }
-ONE_OPERATOR = {4, 5, 6, 7, 9}
+ONE_OPERATOR = {4, 5, 6, 7, 9, 11, 12, 13, 14, 15}
 SOURCES = {0: ['whole', 'unused'], 1: ['real', 'unused'], 2: CELL, 3: NONE}
 NODES = {0: CELL, 3: ['real', 'real'], 6: REGION}
 ARGUMENTS = {0: REGION, 1: CELL, 2: ['real', 'real']}
@@ -74,7 +84,7 @@ def places(table, row):
         return ['tag'] + NODES.get(word(0), NONE)
     if table == 'arguments':
         return ['form'] + ARGUMENTS.get(word(0), NONE)
-    if word(0, 0) > 10:
+    if word(0, 0) >= len(FAMILIES):
         return ['operation'] + ['unused'] * 8
     operator = 'unused' if word(0) in ONE_OPERATOR else 'operator'
     return ['operation', operator] + OPERANDS[word(0, 0)] + ['source form'] + SOURCES.get(word(6), NONE)
@@ -169,7 +179,7 @@ class File:
             kind, = self.words(written[1], 'kind')
             self.words(written[2], 'real' if kind == 3 else 'whole')
             return
-        if len(written) != {'memory': 1, 'journal': 1, 'entry': 4, 'position': 2}[first]:
+        if len(written) != {'memory': 1, 'journal': 1, 'entry': 4, 'position': 3}[first]:
             raise Refused
         for word in written:
             whole(word)

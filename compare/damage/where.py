@@ -33,7 +33,8 @@ COLUMNS = [
 TAGS = 'address function infix number pi prefix variable'.split()
 MNEMONICS = [line.split() for line in (
     'ADD SUB DIV MUL', 'EQ GE GT LE LT', 'AND IOR XOR SHL SHR ASHR', 'NEG NOT', 'MOVE', 'EXCHANGE', 'LOAD', 'STORE',
-    'SET-FREQUENCY SET-PHASE SET-SCALE SHIFT-FREQUENCY SHIFT-PHASE', 'CALL', 'NOP OTHER')]
+    'SET-FREQUENCY SET-PHASE SET-SCALE SHIFT-FREQUENCY SHIFT-PHASE', 'CALL', 'NOP OTHER',
+    'JUMP', 'JUMP-WHEN', 'JUMP-UNLESS', 'LABEL', 'HALT')]
 FRAME, CALL = 8, 9
 
 ANY, UNUSED = 'any', 'unused'
@@ -41,8 +42,10 @@ ANY, UNUSED = 'any', 'unused'
 FAMILIES = [
     (3, '11..', (0, 1, 2)), (4, '1111', (0, 1, 2)), (5, '11..', (0, 2)), (1, '11..', (3,)), (UNUSED, '11..', (0, 1, 2)),
     (UNUSED, '1111', (3,)), (UNUSED, '111.', (2,)), (UNUSED, '1.11', (0, 1, 2)), (4, '11..', (3,)), (UNUSED, '111.', (3,)),
-    (1, '....', (3,)),
+    (1, '....', (3,)), (UNUSED, '..1.', (3,)), (UNUSED, '111.', (3,)), (UNUSED, '111.', (3,)), (UNUSED, '..1.', (3,)),
+    (UNUSED, '....', (3,)),
 ]
+LAST_FAMILY = len(FAMILIES) - 1
 
 
 def rules(table, row):
@@ -57,11 +60,11 @@ def rules(table, row):
         return [6] + {0: [ANY, ANY], 3: [ANY, ANY], 6: [ANY, UNUSED]}.get(row[0], [UNUSED, UNUSED])
     if table == 4:
         return [2] + {0: [ANY, UNUSED]}.get(row[0], [ANY, ANY])
-    if row[0] >= len(FAMILIES):
-        return [10] + [ANY] * 8
+    if row[0] > LAST_FAMILY:
+        return [LAST_FAMILY] + [ANY] * 8
     operators, operands, forms = FAMILIES[row[0]]
     source = {0: [ANY, UNUSED], 1: [ANY, UNUSED], 2: [ANY, ANY]}.get(row[6], [UNUSED, UNUSED])
-    return [10, operators] + [ANY if used == '1' else UNUSED for used in operands] + [forms] + source
+    return [LAST_FAMILY, operators] + [ANY if used == '1' else UNUSED for used in operands] + [forms] + source
 
 
 def fits(rule, word):
@@ -171,7 +174,7 @@ def tree(rng, size):
 
 
 def instruction(rng, frames, arguments):
-    family = rng.randrange(11)
+    family = rng.randrange(len(FAMILIES))
     operators, operands, forms = FAMILIES[family]
     operator = 0 if operators == UNUSED else rng.randrange(operators + 1)
     first = [rng.randrange(4) if used == '1' else 0 for used in operands]
@@ -208,7 +211,7 @@ def allowed_tables(rng):
 
 def word_changed(rng, tables):
     words = rng.choice([t for t in tables if t] or [[0]])
-    words[rng.randrange(len(words))] = rng.choice([rng.randrange(13), rng.randrange(13), rng.getrandbits(64), 2**64 - 1])
+    words[rng.randrange(len(words))] = rng.choice([rng.randrange(18), rng.randrange(18), rng.getrandbits(64), 2**64 - 1])
 
 
 def words_dropped(rng, tables):

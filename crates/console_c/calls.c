@@ -1,6 +1,6 @@
-/* The calls on tables alone: a type error, one frame's verdict, a CALL's arguments and names, an
- * expression's references, how long a journal to lend. A session is in example.c. Build and run
- * from the repository's root:
+/* The other calls: a type error, one frame's verdict, a CALL's arguments and names, an expression's
+ * references, how long a journal to lend; and a loop that is run. A session is in example.c. Build
+ * and run from the repository's root:
  *   rt staticlib console_c
  *   cc -o target/calls crates/console_c/calls.c target/staticlib/libconsole_c.a && target/calls */
 #include "console.h"
@@ -8,8 +8,9 @@
 #include <inttypes.h>
 #include <stdio.h>
 
-/* Names are any numbers: a and n are regions, f an extern, x its parameter. */
-enum { A = 0, N = 1, X = 5, F = 7 };
+/* Names are any numbers: a and n are regions, f an extern, x its parameter. A label is a name of
+ * its own: this one has n's number too. */
+enum { A = 0, N = 1, X = 5, F = 7, AGAIN = 1 };
 
 /* DECLARE a BIT[2]; DECLARE n INTEGER[3] */
 static const uint64_t regions[] = {A, CONSOLE_KIND_BIT, 2, N, CONSOLE_KIND_INTEGER, 3};
@@ -45,15 +46,31 @@ static const uint64_t instructions[] = {
     /* SET-PHASE 0 "xy" pi/2: three nodes, from row 6 on */
     CONSOLE_FAMILY_FRAME, CONSOLE_OPERATOR_SET_PHASE, 6, 3, 0, 0, CONSOLE_SOURCE_NONE, 0, 0,
 };
+/* n[0] is counted down from 2 to 0. */
+static const uint64_t loop[] = {
+    /* MOVE n[0] 2 */
+    CONSOLE_FAMILY_MOVE, 0, N, 0, 0, 0, CONSOLE_SOURCE_INTEGER_LITERAL, 2, 0,
+    /* LABEL @again */
+    CONSOLE_FAMILY_LABEL, 0, 0, 0, AGAIN, 0, CONSOLE_SOURCE_NONE, 0, 0,
+    /* SUB n[0] 1 */
+    CONSOLE_FAMILY_ARITHMETIC, CONSOLE_OPERATOR_SUBTRACT, N, 0, 0, 0,
+    CONSOLE_SOURCE_INTEGER_LITERAL, 1, 0,
+    /* GT a[0] n[0] 0 */
+    CONSOLE_FAMILY_COMPARISON, CONSOLE_OPERATOR_GREATER_THAN, A, 0, N, 0,
+    CONSOLE_SOURCE_INTEGER_LITERAL, 0, 0,
+    /* JUMP-WHEN @again a[0] */
+    CONSOLE_FAMILY_JUMP_WHEN, 0, A, 0, AGAIN, 0, CONSOLE_SOURCE_NONE, 0, 0,
+};
 enum { CALL_ROW = 0, BAD_FRAME_ROW = 2, GOOD_FRAME_ROW = 3 };
 enum { CALL_ARGUMENTS = 2, NODES = 6 }; /* of row 0; of the first expression */
 
 #define LENGTH(x) (sizeof(x) / sizeof((x)[0]))
-/* the program of that many words of the instructions */
-#define TABLES_OF(words)                                                                      \
+/* the program of that many words of those rows */
+#define TABLES_OF(rows, words)                                                                \
     regions, LENGTH(regions), externs, LENGTH(externs), parameters, LENGTH(parameters), nodes, \
-        LENGTH(nodes), arguments, LENGTH(arguments), instructions, words
-#define TABLES TABLES_OF(LENGTH(instructions))
+        LENGTH(nodes), arguments, LENGTH(arguments), rows, words
+#define TABLES TABLES_OF(instructions, LENGTH(instructions))
+#define LOOP TABLES_OF(loop, LENGTH(loop))
 
 static void print(const char *label, uint64_t number, const uint64_t *words, size_t count)
 {
@@ -133,10 +150,32 @@ static void reference(void)
 static void journal_length(void)
 {
     uint64_t entries[1] = {0}, error[CONSOLE_TYPE_ERROR_WIDTH] = {0};
-    uint64_t number = console_journal_length(TABLES_OF(CONSOLE_INSTRUCTION_WIDTH), entries, error);
+    uint64_t number = console_journal_length(TABLES_OF(instructions, CONSOLE_INSTRUCTION_WIDTH),
+                                             entries, error);
     print("journal_length", number, entries, LENGTH(entries));
     number = console_journal_length(TABLES, entries, error);
     print("journal_length", number, error, LENGTH(error));
+}
+
+/* With a jump that count is not always enough: the loop's is 10, and its 9 steps use 14 entries. A
+ * journal of 12 is full before the second GT: there the run stops, and keeps the steps taken. */
+static void run(void)
+{
+    static uint64_t memory[CONSOLE_CELL_WIDTH * 5], journal[CONSOLE_ENTRY_WIDTH * 12];
+    uint64_t position[CONSOLE_POSITION] = {0}, ran[CONSOLE_RAN_WIDTH] = {0};
+    uint64_t entries[1] = {0}, error[CONSOLE_TYPE_ERROR_WIDTH] = {0};
+    uint64_t number = console_journal_length(LOOP, entries, error);
+    print("loop's journal_length", number, entries, LENGTH(entries));
+    number = console_open(LOOP, memory, LENGTH(memory), journal, LENGTH(journal), position, error);
+    print("loop's position", number, position, LENGTH(position));
+    number = console_run(LOOP, memory, LENGTH(memory), journal, LENGTH(journal), position, 5, ran);
+    print("run of 5", number, ran, LENGTH(ran));
+    print("loop's position", number, position, LENGTH(position));
+    number = console_run(LOOP, memory, LENGTH(memory), journal, LENGTH(journal), position, 99, ran);
+    print("run of 99", number, ran, LENGTH(ran));
+    print("loop's position", number, position, LENGTH(position));
+    number = console_back(LOOP, memory, LENGTH(memory), journal, LENGTH(journal), position);
+    print("back", number, position, LENGTH(position));
 }
 
 int main(void)
@@ -149,5 +188,6 @@ int main(void)
     references_by_two();
     reference();
     journal_length();
+    run();
     return 0;
 }

@@ -24,8 +24,8 @@ extern "C" {
         size_t nodes_length, const uint64_t *arguments, size_t arguments_length,                    \
         const uint64_t *instructions, size_t instructions_length
 
-/* A position's words: steps done, entries used. */
-#define CONSOLE_POSITION 2
+/* A position's words: row, steps not taken back, entries used. */
+#define CONSOLE_POSITION 3
 
 /* ---- Words of the tables */
 
@@ -83,7 +83,8 @@ enum {
     CONSOLE_ARGUMENT_IMMEDIATE = 2   /* bits of the real part, of the imaginary part */
 };
 
-/* Families of instructions, each with its four operand words; then the source forms it takes. */
+/* Families of instructions, each with its four operand words; then the source forms it takes. A
+ * label is a name of its own: it may be a region's or an extern's number too. */
 enum {
     CONSOLE_FAMILY_ARITHMETIC = 0,   /* destination name, index, 0, 0; any but none */
     CONSOLE_FAMILY_COMPARISON = 1,   /* destination name, index, left name, index; any but none */
@@ -95,7 +96,12 @@ enum {
     CONSOLE_FAMILY_STORE = 7,        /* region, 0, offset name, index; any but none */
     CONSOLE_FAMILY_FRAME = 8,        /* first node, node count, 0, 0: exactly one tree; none */
     CONSOLE_FAMILY_CALL = 9,         /* extern name, first argument, argument count, 0; none */
-    CONSOLE_FAMILY_OTHER = 10        /* 0, 0, 0, 0; none */
+    CONSOLE_FAMILY_OTHER = 10,       /* 0, 0, 0, 0; none */
+    CONSOLE_FAMILY_JUMP = 11,        /* 0, 0, label, 0; none */
+    CONSOLE_FAMILY_JUMP_WHEN = 12,   /* condition name, index, label, 0; none */
+    CONSOLE_FAMILY_JUMP_UNLESS = 13, /* condition name, index, label, 0; none */
+    CONSOLE_FAMILY_LABEL = 14,       /* 0, 0, label, 0; none */
+    CONSOLE_FAMILY_HALT = 15         /* 0, 0, 0, 0; none */
 };
 
 /* Operators, family by family; in the other families the word is 0. */
@@ -150,7 +156,8 @@ enum {
 /* A cell: kind, word. All regions together have at most so many. */
 #define CONSOLE_CELL_WIDTH 2
 #define CONSOLE_CELL_LIMIT 4096
-/* A journal entry: cell, old kind, old word; after a step's entries one of change count, 0, 0. */
+/* A journal entry: cell, old kind, old word; after a step's entries one of change count, row left,
+ * 0. */
 #define CONSOLE_ENTRY_WIDTH 3
 #define CONSOLE_ENTRY_LIMIT 2048
 /* A reply's row: argument, offset, kind, word. The argument is a resolved row's number, from 0. */
@@ -162,6 +169,8 @@ enum {
 #define CONSOLE_ERROR_WIDTH 7
 /* A type error: its kind, row, spot of the operand, spot of `src` or 0, two codes. */
 #define CONSOLE_TYPE_ERROR_WIDTH 6
+/* What console_run tells: steps taken, why no more, the refusal's number or 0. */
+#define CONSOLE_RAN_WIDTH 3
 /* What console_reference finds: 1, name, index; or at the end 0, 0, 0. */
 #define CONSOLE_FOUND_WIDTH 3
 /* A row of console_references: name, index. No expression has more than so many. */
@@ -173,6 +182,14 @@ enum {
     CONSOLE_RESOLVED_VECTOR = 0,    /* name, kind, length, mutable */
     CONSOLE_RESOLVED_REFERENCE = 1, /* name, index, kind, mutable */
     CONSOLE_RESOLVED_IMMEDIATE = 2  /* bits of the real part, of the imaginary part, kind, 0 */
+};
+
+/* Why a run stopped. */
+enum {
+    CONSOLE_STOP_ALLOWANCE = 0, /* all steps of its allowance are taken */
+    CONSOLE_STOP_END = 1,       /* at the program's end */
+    CONSOLE_STOP_CALL = 2,      /* before a CALL */
+    CONSOLE_STOP_REFUSAL = 3    /* at a row that console_forward refuses, with that number */
 };
 
 /* An error row's first word: whose argument is in error. */
@@ -252,7 +269,11 @@ enum {
 
     /* a foreign writer: whatever wrote memory, journal or position other than these calls */
     CONSOLE_REFUSAL_NO_RULE = 18,
-    CONSOLE_REFUSAL_FOREIGN_POSITION = 19
+    CONSOLE_REFUSAL_FOREIGN_POSITION = 19,
+
+    /* the program's author */
+    CONSOLE_REFUSAL_UNFIT_LABELS = 20,
+    CONSOLE_REFUSAL_CONDITION_NOT_BIT = 21
 };
 
 /* The cause of an answer in words, a string that is not to be freed. A number that no call returns
@@ -302,6 +323,10 @@ static inline const char *console_cause(uint64_t number)
                "declared";
     case CONSOLE_REFUSAL_FOREIGN_POSITION:
         return "the position lies past its tables, or the journal cannot be read";
+    case CONSOLE_REFUSAL_UNFIT_LABELS:
+        return "a label stands on two LABEL rows, or a jump goes to a label that stands on none";
+    case CONSOLE_REFUSAL_CONDITION_NOT_BIT:
+        return "the condition of a jump is not declared, or not BIT";
     default:
         return "no answer of this library";
     }
@@ -345,36 +370,47 @@ uint64_t console_references(const uint64_t *nodes, size_t nodes_length, uint64_t
                             uint64_t node_count, uint64_t place[1], uint64_t *rows,
                             size_t rows_length, uint64_t count[1]);
 
-/* How many journal entries are enough: 1, 2, 3, 10, 5, 9, then 6, 7, 8 by row, as console_open
- * without its buffers. entries on 0: the sum over all rows, 1 for NOP and a frame, 3 for EXCHANGE,
- * 65 for a CALL, 2 for any other; a journal of n entries is CONSOLE_ENTRY_WIDTH * n words. After an
- * accepted console_open, where nothing else writes the session, no more entries are ever in use,
- * and with a journal of at least so many no console_forward is 13. The sum may be above 2,048, the
- * most that console_open takes: then 13 may come with some keys and replies. error on 5, as
- * console_check. */
+/* How many journal entries are enough for a program without jumps: 1, 2, 3, 10, 5, 9, 20, 21, then
+ * 6, 7, 8 by row, as console_open without its buffers. entries on 0: the sum over all rows, 1 for
+ * NOP and a frame, 3 for EXCHANGE, 65 for a CALL, 2 for any other; a journal of n entries is
+ * CONSOLE_ENTRY_WIDTH * n words. After an accepted console_open, where nothing else writes the
+ * session and no row is a JUMP, JUMP_WHEN or JUMP_UNLESS, no more entries are ever in use, and with
+ * a journal of at least so many no console_forward is 13. With jumps a row may be done many times,
+ * each time with at most 65 entries. The sum may be above 2,048, the most that console_open takes:
+ * then 13 may come with some keys and replies. error on 5, as console_check. */
 uint64_t console_journal_length(CONSOLE_TABLES, uint64_t entries[1],
                                 uint64_t error[CONSOLE_TYPE_ERROR_WIDTH]);
 
-/* Zeroes the cells of all regions, each with its declared kind: 1, 2, 3, 10, 4, 5, 9, then 6, 7, 8
- * by row. memory takes two words a cell, kind and word; words past the cells stay. journal takes
- * three words an entry, at most 2,048 entries; none is read or written. position on 0: both words
- * 0. error on 5, as console_check. A refusal leaves memory as it was. */
+/* Zeroes the cells of all regions, each with its declared kind: 1, 2, 3, 10, 4, 5, 9, 20, 21, then
+ * 6, 7, 8 by row. memory takes two words a cell, kind and word; words past the cells stay. journal
+ * takes three words an entry, at most 2,048 entries; none is read or written. position on 0: all
+ * words 0. error on 5, as console_check. A refusal leaves memory as it was. */
 uint64_t console_open(CONSOLE_TABLES, uint64_t *memory, size_t memory_length,
                       const uint64_t *journal, size_t journal_length,
                       uint64_t position[CONSOLE_POSITION],
                       uint64_t error[CONSOLE_TYPE_ERROR_WIDTH]);
 
-/* One step forward, the row at position: 1, 2, 3, 10, 4, 19, 11, 9, then for a CALL 6, 7, 8, 14,
- * 17, 13, else 17, 18, 14, 18, 14, 18, 15, 16, 13. memory takes 2 words a cell, a journal entry 3
- * words. position on 0 is the new one. reply is at most 64 rows of 4 words where the row is a CALL,
- * else empty: argument, offset, kind, word. On any other answer memory and journal keep what they
- * held. */
+/* One step forward, the row at position: 1, 2, 3, 10, 4, 19, 11, 9, 20, then for a CALL 6, 7, 8,
+ * 14, 17, 13, else 17, 18, 14, 18, 14, 18, 15, 16, 13. memory takes 2 words a cell, a journal entry
+ * 3 words. position on 0 is the new one: its row is the next, a taken jump's LABEL row, or after
+ * HALT the number of rows. reply is at most 64 rows of 4 words where the row is a CALL, else empty:
+ * argument, offset, kind, word. On any other answer memory and journal keep what they held. */
 uint64_t console_forward(CONSOLE_TABLES, uint64_t *memory, size_t memory_length, uint64_t *journal,
                          size_t journal_length, uint64_t position[CONSOLE_POSITION],
                          const uint64_t *reply, size_t reply_length);
 
+/* Steps forward with no reply, at most allowance of them: 1, 2, 3, 10, 4, 19. On 0 ran is the steps
+ * taken, why no more (CONSOLE_STOP_..), and the number for which console_forward would refuse the
+ * next step where that is the reason, else 0; memory, journal and position are what so many
+ * console_forward leave, with an allowance of 0 what they were. Before each step come allowance,
+ * end, CALL, refusal, in this order: where one stops the run those after it are not looked for. */
+uint64_t console_run(CONSOLE_TABLES, uint64_t *memory, size_t memory_length, uint64_t *journal,
+                     size_t journal_length, uint64_t position[CONSOLE_POSITION],
+                     uint64_t allowance, uint64_t ran[CONSOLE_RAN_WIDTH]);
+
 /* The last step taken back from the journal: 1, 2, 3, 10, 4, 19, 12, 19. position on 0 is the one
- * before that step. On any other answer memory keeps what it held. */
+ * before that step, its row the one that the closing entry has as left. On any other answer memory
+ * keeps what it held. */
 uint64_t console_back(CONSOLE_TABLES, uint64_t *memory, size_t memory_length,
                       const uint64_t *journal, size_t journal_length,
                       uint64_t position[CONSOLE_POSITION]);

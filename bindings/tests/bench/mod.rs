@@ -46,6 +46,22 @@ pub fn call(name: u64, first_argument: u64, argument_count: u64) -> Row {
     Instruction::Call { name, first_argument, argument_count }.row()
 }
 
+pub fn label(label: u64) -> Row {
+    Instruction::Label { label }.row()
+}
+
+pub fn jump(label: u64) -> Row {
+    Instruction::Jump { label }.row()
+}
+
+pub fn jump_when(label: u64, condition: MemoryReference) -> Row {
+    Instruction::JumpWhen { label, condition }.row()
+}
+
+pub fn jump_unless(label: u64, condition: MemoryReference) -> Row {
+    Instruction::JumpUnless { label, condition }.row()
+}
+
 /// The bench's regions with these instructions.
 pub fn bench(instructions: &[Row]) -> Tables<'_> {
     Tables { regions: flattened(&REGIONS), instructions: flattened(instructions), ..Tables::default() }
@@ -68,6 +84,8 @@ pub fn word(session: &Session, reference: MemoryReference) -> u64 {
     session.cell(reference).unwrap().word
 }
 
-pub fn position(session: &Session) -> (u64, u64) {
-    (session.position().done, session.position().used)
+/// Row, steps done, entries used.
+pub fn position(session: &Session) -> (u64, u64, u64) {
+    let position = session.position();
+    (position.row, position.done, position.used)
 }

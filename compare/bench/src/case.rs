@@ -9,6 +9,8 @@ pub enum Against {
     QuilRs,
     /// One read of every word of the tables.
     OneRead,
+    /// One forward: on a classical row at the limits, or a run's first step.
+    OneForward,
 }
 
 pub struct Case {

@@ -205,6 +205,9 @@ pub fn calls(tables: &mut Tables, rows: u64, names: Names) -> u64 {
     chosen
 }
 
+/// The first classical row of `limits`.
+pub const LIMITS_CLASSICAL: u64 = 128;
+
 /// Every table at its limit, and every cell: 128 CALLs of 8 arguments, 256 classical rows, 128 frames of 16 nodes.
 pub fn limits() -> Tables {
     let mut tables = regions(64, 64);
@@ -220,4 +223,81 @@ pub fn overlapping() -> Tables {
     let mut tables = Tables { instructions: Vec::new(), nodes: Vec::new(), ..limits() };
     shared_frames(&mut tables, 512, 2048);
     tables
+}
+
+/// The numbers of labels.
+#[derive(Clone, Copy)]
+pub enum Labels {
+    Consecutive,
+    /// Over all 64 bits.
+    Scattered,
+    /// All in one chain (docs/DECISIONS.md, L4).
+    OnePlace,
+}
+
+impl Labels {
+    fn number(self, i: u64) -> u64 {
+        match self {
+            Labels::Consecutive => i,
+            Labels::Scattered => (i + 1).wrapping_mul(0x9E37_79B9_7F4A_7C15),
+            Labels::OnePlace => i * 1021,
+        }
+    }
+}
+
+fn label(number: u64) -> [u64; INSTRUCTION] {
+    [14, 0, 0, 0, number, 0, 3, 0, 0]
+}
+
+fn jump(number: u64) -> [u64; INSTRUCTION] {
+    [11, 0, 0, 0, number, 0, 3, 0, 0]
+}
+
+/// Every table at its limit, with these 512 rows.
+fn limits_with(rows: impl Iterator<Item = [u64; INSTRUCTION]>) -> Tables {
+    Tables { instructions: rows.flatten().collect(), ..limits() }
+}
+
+/// 256 JUMPs, each to another of the 256 LABELs behind them, the first to the last.
+pub fn jumps(labels: Labels) -> Tables {
+    let targets = (0..256).rev().map(|i| jump(labels.number(i)));
+    limits_with(targets.chain((0..256).map(|i| label(labels.number(i)))))
+}
+
+pub fn labels(labels: Labels) -> Tables {
+    limits_with((0..512).map(|i| label(labels.number(i))))
+}
+
+/// LABELs and JUMP-UNLESSes in turn, each jump to the LABEL before the next, by a BIT of the last region that has one.
+pub fn ring() -> Tables {
+    let number = |i: u64| Labels::Scattered.number(i % 256);
+    let unless = |i| [13, 0, region(60), 63, number(i + 1), 0, 3, 0, 0];
+    limits_with((0..512).map(|i| if i % 2 == 0 { label(number(i / 2)) } else { unless(i / 2) }))
+}
+
+/// `limits` with a loop of LABEL and JUMP in place of its last two rows, and its row.
+pub fn loop_last() -> (Tables, u64) {
+    let mut tables = limits();
+    let first = tables.instructions.len() - 2 * INSTRUCTION;
+    tables.instructions.splice(first.., [label(7), jump(7)].concat());
+    (tables, (first / INSTRUCTION) as u64)
+}
+
+/// A loop of LABEL and JUMP alone.
+pub fn small_loop() -> Tables {
+    Tables { instructions: [label(7), jump(7)].concat(), ..regions(8, 8) }
+}
+
+/// An INTEGER counted down to 0 from as many as so many journal entries allow, and the steps that this takes: two
+/// entries for MOVE, then six for each time round its four rows.
+pub fn countdown(entries: u64) -> (Tables, u64) {
+    let (counter, flag, times) = (region(INTEGER), region(0), (entries - 2) / 6);
+    let rows = [
+        [4, 0, counter, 0, 0, 0, 0, times, 0],
+        label(7),
+        [0, 1, counter, 0, 0, 0, 0, 1, 0],
+        [1, 2, flag, 0, counter, 0, 0, 0, 0],
+        [12, 0, flag, 0, 7, 0, 3, 0, 0],
+    ];
+    (Tables { instructions: rows.concat(), ..regions(8, 8) }, 1 + 4 * times)
 }

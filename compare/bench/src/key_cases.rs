@@ -21,12 +21,12 @@ pub fn all() -> Vec<Case> {
         cases.extend(presses(&format!("every table at its limit, {what}"), Some(4.0), tables, row, reply));
     };
     let limits = inputs::limits();
-    at_limits("a classical row", &limits, 128, &[]);
+    at_limits("a classical row", &limits, inputs::LIMITS_CLASSICAL, &[]);
     at_limits("a CALL, reply of 64 rows", &limits, 0, &reply());
     at_limits("512 frames over all 2,048 nodes", &inputs::overlapping(), 0, &[]);
     let mut one_mark = limits.clone();
     inputs::share_mark(&mut one_mark);
-    at_limits("names of one mark", &one_mark, 128, &[]);
+    at_limits("names of one mark", &one_mark, inputs::LIMITS_CLASSICAL, &[]);
     cases.push(reads(limits));
     cases
 }
@@ -55,10 +55,10 @@ fn reply() -> Vec<u64> {
 
 /// Forward at a row, and back from it. The session stands there as if the rows before had used no journal: forward
 /// and back look at no entry of theirs. Such a position is no session's, so these are the raw calls.
-fn presses(input: &str, goal: Option<f64>, tables: &Tables, row: u64, reply: &[u64]) -> [Case; 2] {
+pub fn presses(input: &str, goal: Option<f64>, tables: &Tables, row: u64, reply: &[u64]) -> [Case; 2] {
     let (mut memory, mut journal) = buffers();
-    assert_eq!(raw::open(&lent(tables), &mut memory, &journal, &mut [0; 2], &mut [0; 6]), 0, "{input}");
-    let (before, mut position) = ([row, 0], [row, 0]);
+    assert_eq!(raw::open(&lent(tables), &mut memory, &journal, &mut [0; 3], &mut [0; 6]), 0, "{input}");
+    let (before, mut position) = ([row, 0, 0], [row, 0, 0]);
     assert_eq!(raw::forward(&lent(tables), &mut memory, &mut journal, &mut position, reply), 0, "{input}");
     let after = position;
     assert_eq!(raw::back(&lent(tables), &mut memory, &journal, &mut position), 0, "{input}");
@@ -76,7 +76,7 @@ fn presses(input: &str, goal: Option<f64>, tables: &Tables, row: u64, reply: &[u
     [case("forward", forward), case("back", back(tables.clone(), (memory, journal), after))]
 }
 
-fn forward(tables: Tables, (mut memory, mut journal): Buffers, before: [u64; 2], reply: Vec<u64>) -> Call {
+pub fn forward(tables: Tables, (mut memory, mut journal): Buffers, before: [u64; 3], reply: Vec<u64>) -> Call {
     Box::new(move || {
         let (tables, mut position) = (lent(&tables), before);
         let answer = raw::forward(hidden(&tables), &mut memory, &mut journal, &mut position, &reply);
@@ -84,7 +84,7 @@ fn forward(tables: Tables, (mut memory, mut journal): Buffers, before: [u64; 2],
     })
 }
 
-fn back(tables: Tables, (mut memory, journal): Buffers, after: [u64; 2]) -> Call {
+fn back(tables: Tables, (mut memory, journal): Buffers, after: [u64; 3]) -> Call {
     Box::new(move || {
         let (tables, mut position) = (lent(&tables), after);
         let answer = raw::back(hidden(&tables), &mut memory, &journal, &mut position);
@@ -93,9 +93,9 @@ fn back(tables: Tables, (mut memory, journal): Buffers, after: [u64; 2]) -> Call
 }
 
 /// Memory and journal.
-type Buffers = (Vec<u64>, Vec<u64>);
+pub type Buffers = (Vec<u64>, Vec<u64>);
 
-fn buffers() -> Buffers {
+pub fn buffers() -> Buffers {
     (vec![0; sizes::MEMORY_WORDS], vec![0; sizes::JOURNAL_WORDS])
 }
 

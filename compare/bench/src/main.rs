@@ -1,4 +1,5 @@
-//! The library's calls measured beside quil-rs's, and key presses beside one read of the tables: docs/PERFORMANCE.md.
+//! The library's calls measured beside quil-rs's, key presses beside one read of the tables, jumps, labels and runs
+//! beside one forward: docs/PERFORMANCE.md.
 //! Each input is counted in instructions by callgrind, in a second run of this program, and timed here.
 mod call_cases;
 mod case;
@@ -7,6 +8,7 @@ mod count;
 mod inputs;
 mod key_cases;
 mod report;
+mod run_cases;
 mod time;
 
 use case::Case;
@@ -18,7 +20,7 @@ const STACK: usize = 1 << 28;
 const ONCE: &str = "--once";
 
 fn cases() -> Vec<Case> {
-    [check_cases::all(), call_cases::all(), key_cases::all()].into_iter().flatten().collect()
+    [check_cases::all(), call_cases::all(), key_cases::all(), run_cases::all()].into_iter().flatten().collect()
 }
 
 fn main() {

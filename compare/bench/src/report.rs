@@ -2,13 +2,13 @@
 use crate::case::{Against, Case};
 
 pub fn print(cases: &[Case], counts: &[[u64; 2]], times: &[[f64; 2]]) {
-    for against in [Against::QuilRs, Against::OneRead] {
-        match against {
-            Against::QuilRs => println!("| call | input | instructions | quil-rs's | ratio | ratio of times | goal |"),
-            Against::OneRead => {
-                println!("\n| call | tables | instructions | one read | ratio | ratio of times | goal |")
-            }
-        }
+    for against in [Against::QuilRs, Against::OneRead, Against::OneForward] {
+        let [input, theirs] = match against {
+            Against::QuilRs => ["input", "quil-rs's"],
+            Against::OneRead => ["tables", "one read"],
+            Against::OneForward => ["tables", "one forward"],
+        };
+        println!("\n| call | {input} | instructions | {theirs} | ratio | ratio of times | goal |");
         println!("|---|---|---:|---:|---:|---:|---|");
         for ((case, count), time) in cases.iter().zip(counts).zip(times) {
             if case.against == against {

@@ -1,6 +1,6 @@
 //! An unproved copy of the library: crates/*/src without the contracts, compiled as Rust. Sensitivity runs edit such a
 //! copy; the proved library itself cannot be had with the edit in it.
-use console_c::{access, back, check, forward, frame, journal_length, open, reference, references, resolve};
+use console_c::{access, back, check, forward, frame, journal_length, open, reference, references, resolve, run};
 use tables::{Console, FrameCheck, Session, Tables};
 
 pub struct Unproved;
@@ -66,7 +66,7 @@ impl Session for Unproved {
         tables: &Tables,
         memory: &mut [u64],
         journal: &[u64],
-        position: &mut [u64; 2],
+        position: &mut [u64; 3],
         error: &mut [u64; 6],
     ) -> u64 {
         with_tables!(open::console_open, tables, memory, journal, position, error)
@@ -77,13 +77,25 @@ impl Session for Unproved {
         tables: &Tables,
         memory: &mut [u64],
         journal: &mut [u64],
-        position: &mut [u64; 2],
+        position: &mut [u64; 3],
         reply: &[u64],
     ) -> u64 {
         with_tables!(forward::console_forward, tables, memory, journal, position, reply)
     }
 
-    fn back(&self, tables: &Tables, memory: &mut [u64], journal: &[u64], position: &mut [u64; 2]) -> u64 {
+    fn back(&self, tables: &Tables, memory: &mut [u64], journal: &[u64], position: &mut [u64; 3]) -> u64 {
         with_tables!(back::console_back, tables, memory, journal, position)
+    }
+
+    fn run(
+        &self,
+        tables: &Tables,
+        memory: &mut [u64],
+        journal: &mut [u64],
+        position: &mut [u64; 3],
+        allowance: u64,
+        ran: &mut [u64; 3],
+    ) -> u64 {
+        with_tables!(run::console_run, tables, memory, journal, position, allowance, ran)
     }
 }

@@ -64,7 +64,7 @@ impl Session for Proved {
         tables: &Tables,
         memory: &mut [u64],
         journal: &[u64],
-        position: &mut [u64; 2],
+        position: &mut [u64; 3],
         error: &mut [u64; 6],
     ) -> u64 {
         raw::open(&lent(tables), memory, journal, position, error)
@@ -75,13 +75,25 @@ impl Session for Proved {
         tables: &Tables,
         memory: &mut [u64],
         journal: &mut [u64],
-        position: &mut [u64; 2],
+        position: &mut [u64; 3],
         reply: &[u64],
     ) -> u64 {
         raw::forward(&lent(tables), memory, journal, position, reply)
     }
 
-    fn back(&self, tables: &Tables, memory: &mut [u64], journal: &[u64], position: &mut [u64; 2]) -> u64 {
+    fn back(&self, tables: &Tables, memory: &mut [u64], journal: &[u64], position: &mut [u64; 3]) -> u64 {
         raw::back(&lent(tables), memory, journal, position)
+    }
+
+    fn run(
+        &self,
+        tables: &Tables,
+        memory: &mut [u64],
+        journal: &mut [u64],
+        position: &mut [u64; 3],
+        allowance: u64,
+        ran: &mut [u64; 3],
+    ) -> u64 {
+        raw::run(&lent(tables), memory, journal, position, allowance, ran)
     }
 }

@@ -9,8 +9,9 @@ use quil_rs::{
     instruction::{
         Arithmetic, ArithmeticOperand, ArithmeticOperator, BinaryLogic, BinaryOperand, BinaryOperator, Call,
         Comparison, ComparisonOperand, ComparisonOperator, Convert, Declaration, Exchange, FrameIdentifier,
-        Instruction, Load, MemoryReference, Move, RawCapture, SetFrequency, SetPhase, SetScale, ShiftFrequency,
-        ShiftPhase, Store, SwapPhases, UnaryLogic, UnaryOperator, UnresolvedCallArgument,
+        Instruction, Jump, JumpUnless, JumpWhen, Label, Load, MemoryReference, Move, RawCapture, SetFrequency,
+        SetPhase, SetScale, ShiftFrequency, ShiftPhase, Store, SwapPhases, Target, UnaryLogic, UnaryOperator,
+        UnresolvedCallArgument,
     },
     Program,
 };
@@ -162,9 +163,23 @@ impl Builder {
             }),
             8 => self.frame(row, w[1], tables.nodes_of(w[2], w[3]))?,
             9 => Instruction::Call(call(tables, w)?),
-            _ => other(row, w[1]),
+            10 => other(row, w[1]),
+            _ => self.flow(row, w),
         };
         Ok(instruction)
+    }
+
+    /// The condition is named as any operand is, so that an answer which depended on it would show.
+    fn flow(&mut self, row: usize, w: &[u64]) -> Instruction {
+        let target = Target::Fixed(name(w[4]));
+        let mut condition = || self.reference(row, 1, w[2], w[3]);
+        match w[0] {
+            11 => Instruction::Jump(Jump { target }),
+            12 => Instruction::JumpWhen(JumpWhen { target, condition: condition() }),
+            13 => Instruction::JumpUnless(JumpUnless { target, condition: condition() }),
+            14 => Instruction::Label(Label { target }),
+            _ => Instruction::Halt(),
+        }
     }
 
     fn frame(&mut self, row: usize, operator: u64, nodes: &[u64]) -> Result<Instruction, String> {
@@ -221,12 +236,11 @@ fn marked_leaf(row: usize, spot: u64, node: &[u64]) -> Expression {
 /// NOP, or one of the instructions that the tables do not tell apart: each row takes another.
 fn other(row: usize, operator: u64) -> Instruction {
     let reference = || MemoryReference::new("elsewhere".to_string(), 0);
-    match (operator, row % 5) {
+    match (operator, row % 4) {
         (0, _) => Instruction::Nop(),
-        (_, 0) => Instruction::Halt(),
-        (_, 1) => Instruction::Wait(),
-        (_, 2) => Instruction::Convert(Convert::new(reference(), reference())),
-        (_, 3) => Instruction::SwapPhases(SwapPhases::new(frame_identifier(row), frame_identifier(row))),
+        (_, 0) => Instruction::Wait(),
+        (_, 1) => Instruction::Convert(Convert::new(reference(), reference())),
+        (_, 2) => Instruction::SwapPhases(SwapPhases::new(frame_identifier(row), frame_identifier(row))),
         (_, _) => {
             let duration = Expression::Variable("elsewhere".to_string());
             Instruction::RawCapture(RawCapture::new(true, frame_identifier(row), duration, reference()))

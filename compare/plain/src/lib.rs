@@ -1,12 +1,14 @@
-//! A plain machine for frame, journal_length, open, forward and back, written from the papers (01, 02) and
+//! A plain machine for frame, journal_length, open, forward, back and run, written from the papers (01, 02) and
 //! docs/DECISIONS.md: not from the library's definitions and not from quil-rs. It is slow and looks at everything anew in
 //! each call.
 mod call;
 mod check;
 mod history;
+mod labels;
 mod layout;
 mod length;
 mod loader;
+mod moves;
 mod operators;
 mod rows;
 mod session;

@@ -92,10 +92,14 @@ fn instruction_allowed(t: &Tables, w: &[u64]) -> bool {
         8 => (5, zero(&w[4..6]) && inside(&t.nodes, NODE, w[2], w[3]) && one_tree(t.nodes_of(w[2], w[3]))),
         9 => (1, w[5] == 0 && inside(&t.arguments, ARGUMENT, w[3], w[4])),
         10 => (2, zero(&w[2..6])),
+        // "First name and index are the condition, second name the label."
+        11 | 14 => (1, zero(&w[2..4]) && w[5] == 0),
+        12 | 13 => (1, w[5] == 0),
+        15 => (1, zero(&w[2..6])),
         _ => return false,
     };
     let form = match w[0] {
-        3 | 5 | 8 | 9 | 10 => w[6] == 3,
+        3 | 5 | 8..=15 => w[6] == 3,
         2 => w[6] == 0 || w[6] == 2,
         6 => w[6] == 2,
         _ => w[6] <= 2,

@@ -62,6 +62,11 @@ pub enum Instruction {
     Call { name: u64, first_argument: usize, arguments: usize },
     Nop,
     Other,
+    Jump { label: u64 },
+    JumpWhen { condition: Reference, label: u64 },
+    JumpUnless { condition: Reference, label: u64 },
+    Label { label: u64 },
+    Halt,
 }
 
 /// Row `row` of loaded tables.
@@ -93,12 +98,22 @@ pub fn instruction(tables: &Tables, row: usize) -> Instruction {
         7 => Instruction::Store { destination: first.name, offset: second, source },
         8 => Instruction::Frame { first_node: w[2] as usize, nodes: w[3] as usize },
         9 => Instruction::Call { name: w[2], first_argument: w[3] as usize, arguments: w[4] as usize },
-        _ if operator == 0 => Instruction::Nop,
-        _ => Instruction::Other,
+        10 if operator == 0 => Instruction::Nop,
+        10 => Instruction::Other,
+        11 => Instruction::Jump { label: second.name },
+        12 => Instruction::JumpWhen { condition: first, label: second.name },
+        13 => Instruction::JumpUnless { condition: first, label: second.name },
+        14 => Instruction::Label { label: second.name },
+        _ => Instruction::Halt,
     }
 }
 
-/// Every operand's name, overwritten ones too.
+/// Every row of loaded tables.
+pub fn all(tables: &Tables) -> impl Iterator<Item = Instruction> + '_ {
+    (0..tables.instructions().count()).map(move |row| instruction(tables, row))
+}
+
+/// Every operand's name, overwritten ones too. A label is no operand.
 pub fn names(row: Instruction) -> Vec<u64> {
     let mut names: Vec<u64> = written(row).iter().map(|reference| reference.name).collect();
     match row {
@@ -120,6 +135,7 @@ pub fn written(row: Instruction) -> Vec<Reference> {
         Instruction::Exchange { first, second } => (vec![first, second], None),
         Instruction::Load { destination, offset, .. } => (vec![destination, offset], None),
         Instruction::Store { offset, source, .. } => (vec![offset], Some(source)),
+        Instruction::JumpWhen { condition, .. } | Instruction::JumpUnless { condition, .. } => (vec![condition], None),
         _ => (Vec::new(), None),
     };
     if let Some(Source::Reference(reference)) = source {

@@ -1,14 +1,15 @@
-//! Frame and journal_length on the tables alone; open, forward and back on lent memory and a lent journal.
+//! Frame and journal_length on the tables alone; open, forward, back and run on lent memory and a lent journal.
 use crate::{
     call::resolve,
     check::{frame_error, type_error},
-    layout::{cell, set_cell, zeros, Cell},
+    labels::{conditions_fit, labels_fit},
+    layout::zeros,
     length::journal_entries,
-    loader::{lent, load, load_frame, need, ENTRY},
-    rows::{instruction, Instruction},
-    step::outcome,
+    loader::{lent, load, load_frame, need},
+    moves::{back, forward, run},
+    rows::{all, Instruction},
 };
-use tables::{FrameCheck, Session, Tables, INSTRUCTION};
+use tables::{FrameCheck, Session, Tables};
 
 /// The machine on lent buffers.
 pub struct Plain;
@@ -42,7 +43,7 @@ impl Session for Plain {
         tables: &Tables,
         memory: &mut [u64],
         journal: &[u64],
-        position: &mut [u64; 2],
+        position: &mut [u64; 3],
         error: &mut [u64; 6],
     ) -> u64 {
         answer(open(tables, memory, journal, error), position)
@@ -53,14 +54,28 @@ impl Session for Plain {
         tables: &Tables,
         memory: &mut [u64],
         journal: &mut [u64],
-        position: &mut [u64; 2],
+        position: &mut [u64; 3],
         reply: &[u64],
     ) -> u64 {
         answer(forward(tables, memory, journal, *position, reply), position)
     }
 
-    fn back(&self, tables: &Tables, memory: &mut [u64], journal: &[u64], position: &mut [u64; 2]) -> u64 {
+    fn back(&self, tables: &Tables, memory: &mut [u64], journal: &[u64], position: &mut [u64; 3]) -> u64 {
         answer(back(tables, memory, journal, *position), position)
+    }
+
+    fn run(
+        &self,
+        tables: &Tables,
+        memory: &mut [u64],
+        journal: &mut [u64],
+        position: &mut [u64; 3],
+        allowance: u64,
+        ran: &mut [u64; 3],
+    ) -> u64 {
+        let done = run(tables, memory, journal, *position, allowance);
+        answer(done.map(|(new, _)| new), position);
+        answer(done.map(|(_, words)| words), ran)
     }
 }
 
@@ -75,7 +90,8 @@ fn answer<const N: usize>(done: Result<[u64; N], u64>, out: &mut [u64; N]) -> u6
     }
 }
 
-/// Open's looks: 1, 2, 3, 10, those at the buffers for so many cells, then 5, 9, and 6, 7, 8 by row. The number of cells.
+/// Open's looks: 1, 2, 3, 10, those at the buffers for so many cells, then 5, 9, 20, 21, and 6, 7, 8 by row. The number
+/// of cells.
 fn looks(tables: &Tables, buffers: impl Fn(usize) -> Result<(), u64>, error: &mut [u64; 6]) -> Result<usize, u64> {
     let cells = load(tables)?;
     buffers(cells)?;
@@ -83,68 +99,19 @@ fn looks(tables: &Tables, buffers: impl Fn(usize) -> Result<(), u64>, error: &mu
         *error = found;
         return Err(5);
     }
-    let rows = 0..tables.instructions.len() / INSTRUCTION;
-    need(rows.clone().all(|row| !matches!(instruction(tables, row), Instruction::Other)), 9)?;
-    for row in rows {
-        if let Instruction::Call { name, first_argument, arguments } = instruction(tables, row) {
+    need(all(tables).all(|row| !matches!(row, Instruction::Other)), 9)?;
+    need(labels_fit(tables), 20)?;
+    need(conditions_fit(tables), 21)?;
+    for row in all(tables) {
+        if let Instruction::Call { name, first_argument, arguments } = row {
             resolve(tables, name, first_argument, arguments)?;
         }
     }
     Ok(cells)
 }
 
-fn open(tables: &Tables, memory: &mut [u64], journal: &[u64], error: &mut [u64; 6]) -> Result<[u64; 2], u64> {
+fn open(tables: &Tables, memory: &mut [u64], journal: &[u64], error: &mut [u64; 6]) -> Result<[u64; 3], u64> {
     let cells = looks(tables, |cells| lent(cells, memory, journal), error)?;
     memory[..2 * cells].copy_from_slice(&zeros(tables));
-    Ok([0, 0])
-}
-
-fn forward(
-    tables: &Tables,
-    memory: &mut [u64],
-    journal: &mut [u64],
-    [done, used]: [u64; 2],
-    reply: &[u64],
-) -> Result<[u64; 2], u64> {
-    let cells = load(tables)?;
-    lent(cells, memory, journal)?;
-    let (rows, entries) = lengths(tables, journal);
-    need(done <= rows && used <= entries, 19)?;
-    need(done < rows, 11)?;
-    let writes = outcome(tables, &memory[..2 * cells], done as usize, reply)?;
-    let changes = writes.len() as u64;
-    need(changes + 1 <= entries - used, 13)?;
-    let mut log = Vec::new();
-    for write in writes {
-        let Cell { kind, word } = cell(memory, write.cell);
-        log.extend([write.cell, kind, word]);
-        set_cell(memory, write.cell, write.to);
-    }
-    log.extend([changes, 0, 0]);
-    journal[ENTRY * used as usize..][..log.len()].copy_from_slice(&log);
-    Ok([done + 1, used + changes + 1])
-}
-
-fn back(tables: &Tables, memory: &mut [u64], journal: &[u64], [done, used]: [u64; 2]) -> Result<[u64; 2], u64> {
-    let cells = load(tables)?;
-    lent(cells, memory, journal)?;
-    let (rows, entries) = lengths(tables, journal);
-    need(done <= rows && used <= entries, 19)?;
-    need(done > 0, 12)?;
-    need(used > 0, 19)?;
-    let closing = used - 1;
-    let changes = journal[ENTRY * closing as usize];
-    need(changes <= closing, 19)?;
-    let first = closing - changes;
-    let log = &journal[ENTRY * first as usize..ENTRY * closing as usize];
-    need(log.chunks(ENTRY).all(|entry| entry[0] < cells as u64), 19)?;
-    for entry in log.chunks(ENTRY).rev() {
-        set_cell(memory, entry[0], Cell { kind: entry[1], word: entry[2] });
-    }
-    Ok([done - 1, first])
-}
-
-/// Rows of the program, entries of the journal.
-fn lengths(tables: &Tables, journal: &[u64]) -> (u64, u64) {
-    ((tables.instructions.len() / INSTRUCTION) as u64, (journal.len() / ENTRY) as u64)
+    Ok([0, 0, 0])
 }

@@ -1,6 +1,7 @@
-//! One row on the cells: refused, or its writes in order. 11 comes before it and 13 after.
+//! One row on the cells: refused, or its writes in order and where it leads. 11 comes before it and 13 after.
 use crate::{
     call::{replied, resolve},
+    labels::{label_row, labels_fit},
     layout::{cell, lookup, word_fits, Cell, Region},
     loader::need,
     operators::{arithmetic, compare, complement, logic, low_bits, negated, value},
@@ -15,20 +16,25 @@ pub struct Write {
     pub to: Cell,
 }
 
-pub fn outcome(tables: &Tables, cells: &[u64], row: usize, reply: &[u64]) -> Result<Vec<Write>, u64> {
-    match instruction(tables, row) {
-        Instruction::Other => Err(9),
-        Instruction::Call { name, first_argument, arguments } => {
-            replied(&resolve(tables, name, first_argument, arguments)?, reply)
-        }
-        row => {
-            need(reply.is_empty(), 17)?;
-            need(names(row).iter().all(|&name| lookup(tables, name).is_some()), 18)?;
-            let machine = Machine { tables, cells };
-            need(written(row).iter().all(|r| r.index < machine.region(r.name).length), 14)?;
-            machine.writes(row)
-        }
+pub struct Step {
+    pub writes: Vec<Write>,
+    /// The row that is current after it.
+    pub next: usize,
+}
+
+pub fn step(tables: &Tables, cells: &[u64], row: usize, reply: &[u64]) -> Result<Step, u64> {
+    let taken = instruction(tables, row);
+    need(!matches!(taken, Instruction::Other), 9)?;
+    need(labels_fit(tables), 20)?;
+    if let Instruction::Call { name, first_argument, arguments } = taken {
+        let writes = replied(&resolve(tables, name, first_argument, arguments)?, reply)?;
+        return Ok(Step { writes, next: row + 1 });
     }
+    need(reply.is_empty(), 17)?;
+    need(names(taken).iter().all(|&name| lookup(tables, name).is_some()), 18)?;
+    let machine = Machine { tables, cells };
+    need(written(taken).iter().all(|r| r.index < machine.region(r.name).length), 14)?;
+    Ok(Step { writes: machine.writes(taken)?, next: machine.next(taken, row)? })
 }
 
 /// Names are declared and written indices below their lengths.
@@ -69,9 +75,28 @@ impl Machine<'_> {
                 let place = self.indexed(self.region(destination), offset)?;
                 Ok(vec![Write { cell: place, to: self.copied(source, place)? }])
             }
-            // "Frame, NOP: no change, nothing looked up."
+            // "Frame, NOP: no change, nothing looked up"; nor do jumps, labels and HALT change a cell.
             _ => Ok(Vec::new()),
         }
+    }
+
+    /// "A taken jump goes to its LABEL's row (WHEN on 1, UNLESS on 0), HALT to the end."
+    fn next(&self, taken: Instruction, row: usize) -> Result<usize, u64> {
+        let target = match taken {
+            Instruction::Jump { label } => Some(label),
+            Instruction::JumpWhen { condition, label } => (self.condition(condition)? == 1).then_some(label),
+            Instruction::JumpUnless { condition, label } => (self.condition(condition)? == 0).then_some(label),
+            Instruction::Halt => return Ok(self.tables.instructions().count()),
+            _ => None,
+        };
+        Ok(target.map_or(row + 1, |label| label_row(self.tables, label)))
+    }
+
+    /// "Only a BIT cell there has a rule."
+    fn condition(&self, at: Reference) -> Result<u64, u64> {
+        let Cell { kind, word } = self.read(at)?;
+        need(kind == BIT, 18)?;
+        Ok(word)
     }
 
     fn arithmetic(&self, operator: Arithmetic, at: Reference, source: Source) -> Result<Vec<Write>, u64> {

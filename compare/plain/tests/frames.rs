@@ -128,14 +128,16 @@ fn this_row_alone() {
     assert_eq!(frame(&tables, 4), (5, [1], [3, 4, 4, 0, 7, 8]));
 }
 
-/// What open and forward ask for does not count: cells, HALT, an extern that is not there.
+/// What open and forward ask for does not count: cells, another instruction, an extern or a label that is not there, a
+/// condition that is not declared.
 #[test]
 fn no_other_number() {
-    let rows = [[10, 1, 0, 0, 0, 0, 3, 0, 0], [9, 0, UNDECLARED, 0, 0, 0, 3, 0, 0], frame_row(0, 1)];
+    let flow = [12, 0, UNDECLARED, 0, 50, 0, 3, 0, 0];
+    let rows = [[10, 1, 0, 0, 0, 0, 3, 0, 0], [9, 0, UNDECLARED, 0, 0, 0, 3, 0, 0], flow, frame_row(0, 1)];
     let mut tables = program(&[address(R)], &rows);
     tables.regions[2] = u64::MAX;
     tables.regions[11] = u64::MAX;
-    assert_eq!(frame(&tables, 2), (0, [1], [7; 6]));
+    assert_eq!(frame(&tables, 3), (0, [1], [7; 6]));
 }
 
 fn refused(number: u64, tables: &Tables, row: u64) {
@@ -147,11 +149,13 @@ fn a_row_that_is_no_frame() {
     let families = [0, 1, 2, 4, 7].map(|family| [family, 0, A, 0, 0, 0, 0, 0, 0]);
     let mut rows = families.to_vec();
     rows.extend([[3, 0, N, 0, 0, 0, 3, 0, 0], [5, 0, N, 0, N, 0, 3, 0, 0], [6, 0, N, 0, N, 0, 2, N, 0]]);
-    rows.extend([[9, 0, 8, 0, 0, 0, 3, 0, 0], NOP, [10, 1, 0, 0, 0, 0, 3, 0, 0], frame_row(0, 1)]);
+    rows.extend([[9, 0, 8, 0, 0, 0, 3, 0, 0], NOP, [10, 1, 0, 0, 0, 0, 3, 0, 0]]);
+    rows.extend([11, 12, 13, 14, 15].map(|family| [family, 0, 0, 0, 0, 0, 3, 0, 0]));
+    rows.push(frame_row(0, 1));
     let tables = program(&[PI], &rows);
-    (0..11).for_each(|row| refused(2, &tables, row));
-    assert_eq!(frame(&tables, 11).0, 0);
-    [12, 1 << 32, SIGN, u64::MAX].iter().for_each(|&row| refused(2, &tables, row));
+    (0..16).for_each(|row| refused(2, &tables, row));
+    assert_eq!(frame(&tables, 16).0, 0);
+    [17, 1 << 32, SIGN, u64::MAX].iter().for_each(|&row| refused(2, &tables, row));
     refused(2, &program(&[], &[]), 0);
 }
 

@@ -1,5 +1,6 @@
 //! Call lists by chance. The plain machine runs beside, so that replies and foreign words can fit where the list is.
 use crate::{
+    claims::has_jumps,
     damage::damage,
     list::{set_table, table_mut, Action, List},
     programs::program,
@@ -34,6 +35,8 @@ struct Course {
 /// A pressed list is not longer.
 const LONGEST: usize = 120;
 
+const ALLOWANCES: [u64; 12] = [0, 1, 1, 2, 3, 5, 8, 20, 100, 2048, u64::MAX - 1, u64::MAX];
+
 pub fn list(random: &mut Random) -> List {
     let tables = program(random);
     let manner = random.pick(&[Manner::Ours, Manner::Ours, Manner::Foreign, Manner::Foreign, Manner::Unopened]);
@@ -46,7 +49,7 @@ pub fn list(random: &mut Random) -> List {
         _ => random.size(300),
     };
     let mut list =
-        List { tables, memory: blanks(memory), journal: lent(entries), position: [77, 78], actions: Vec::new() };
+        List { tables, memory: blanks(memory), journal: lent(entries), position: [77, 78, 79], actions: Vec::new() };
     if manner == Manner::Unopened {
         unopened(random, &mut list);
     }
@@ -65,8 +68,12 @@ fn lent(entries: usize) -> Vec<u64> {
     blanks(ENTRY * entries)
 }
 
-/// Often just the journal that 02 says to buy, or one entry less, if the program is accepted and there is such a journal.
+/// Often just the journal that 02 says to buy, or one entry less, if the program is accepted, has no jump and there is
+/// such a journal.
 fn buy(random: &mut Random, list: &mut List) -> bool {
+    if has_jumps(&list.tables) {
+        return false;
+    }
     let entries = match (journal_length(&list.tables), random.below(10)) {
         (Some(sum @ 0..=ENTRIES), 0..=3) => sum,
         (Some(sum @ 1..=ENTRIES), 4..=6) => sum - 1,
@@ -101,12 +108,18 @@ fn unopened(random: &mut Random, list: &mut List) {
     list.position = inside(random, &list.tables, list.journal.len());
 }
 
-fn inside(random: &mut Random, tables: &Tables, journal: usize) -> [u64; 2] {
-    [random.below(rows(tables) + 1), random.below(journal as u64 / 3 + 1)]
+fn inside(random: &mut Random, tables: &Tables, journal: usize) -> [u64; 3] {
+    let used = random.below(entries(journal) + 1);
+    [random.below(rows(tables) + 1), random.below(used + 1), used]
 }
 
 fn rows(tables: &Tables) -> u64 {
     (tables.instructions.len() / INSTRUCTION) as u64
+}
+
+/// Of a journal of so many words.
+fn entries(journal: usize) -> u64 {
+    (journal / ENTRY) as u64
 }
 
 fn actions(random: &mut Random, list: &List, course: &Course) -> Vec<Action> {
@@ -121,9 +134,10 @@ fn actions(random: &mut Random, list: &List, course: &Course) -> Vec<Action> {
             false => Action::Open,
             true if course.manner != Manner::Ours && random.chance(20) => foreign(random, &tables, &side),
             true if !course.pressed && random.chance(2) => Action::Open,
+            true if random.chance(8) => Action::Run(random.pick(&ALLOWANCES)),
             true if random.chance(course.forward) => {
-                let done = usize::try_from(side.position[0]).unwrap_or(usize::MAX);
-                let row = tables.instructions.chunks_exact(INSTRUCTION).nth(done);
+                let current = usize::try_from(side.position[0]).unwrap_or(usize::MAX);
+                let row = tables.instructions.chunks_exact(INSTRUCTION).nth(current);
                 let loaded = plain::load(&tables).is_ok();
                 Action::Forward(reply(random, &tables, row.filter(|_| loaded), course.pressed))
             }
@@ -156,27 +170,62 @@ fn chosen(random: &mut Random, tables: &Tables) -> u64 {
 /// What a foreign writer does: a cell's kind or word, a word of the journal's used part, the position, a table's word.
 fn foreign(random: &mut Random, tables: &Tables, side: &Side) -> Action {
     let (memory, journal) = (side.memory().len(), side.journal().len());
-    let used = journal.min(3 * side.position[1].min(4096) as usize);
-    let outside = side.position[0] > rows(tables) || side.position[1] > journal as u64 / 3;
-    match random.below(20) {
+    let used = journal.min(ENTRY * side.position[2].min(4096) as usize);
+    let [row, steps, entries_used] = side.position;
+    let outside = row > rows(tables) || steps > entries_used || entries_used > entries(journal);
+    match random.below(22) {
         _ if outside && random.chance(60) => Action::Position(inside(random, tables, journal)),
         0..=4 if memory > 1 => Action::Memory(2 * random.size(memory / 2), random.below(6)),
         5..=8 if memory > 1 => Action::Memory(2 * random.size(memory / 2) + 1, values::any(random)),
-        9..=11 if used > 0 => {
-            // Mostly the closing entry, whose count is its first word.
-            let at = if random.chance(50) { used.saturating_sub(3) } else { random.size(used) };
-            Action::Journal(at, random.pick(&[0, 1, 2, 3, 4, 2048, u64::MAX]))
-        }
-        12 if journal > 0 => Action::Journal(random.size(journal), values::any(random)),
-        13..=14 => Action::Position(inside(random, tables, journal)),
-        15 => Action::Position([side.position[0].wrapping_add(1), side.position[1]]),
-        16 => Action::Position([side.position[0], random.pick(&[0, journal as u64 / 3, journal as u64 / 3 + 1])]),
-        17 => Action::Position([random.pick(&[0, rows(tables), rows(tables) + 1, u64::MAX]), side.position[1]]),
-        18 => Action::Position([values::any(random), values::any(random)]),
+        9..=12 if used >= ENTRY => in_the_journal(random, tables, used),
+        13 if journal > 0 => Action::Journal(random.size(journal), values::any(random)),
+        14..=18 => Action::Position(foreign_position(random, tables, side)),
+        19..=20 => label_or_condition(random, tables),
         _ => {
             let table = random.size(6);
             let length = table_mut(&mut tables.clone(), table).len();
             Action::Table(table, random.size(length.max(1)), values::any(random))
         }
+    }
+}
+
+/// Mostly the closing entry's: its count or the row left.
+fn in_the_journal(random: &mut Random, tables: &Tables, used: usize) -> Action {
+    let (closing, rows) = (used - ENTRY, rows(tables));
+    match random.below(4) {
+        0 => Action::Journal(closing, random.pick(&[0, 1, 2, 3, 4, 2048, u64::MAX])),
+        1 => Action::Journal(closing + 1, random.pick(&[0, 1, rows.saturating_sub(1), rows, rows + 1, u64::MAX])),
+        2 => Action::Journal(closing + 2, values::any(random)),
+        _ => Action::Journal(random.size(used), random.pick(&[0, 1, 2, 3, 4, 2048, u64::MAX])),
+    }
+}
+
+/// Any inside, or one word of it at an edge.
+fn foreign_position(random: &mut Random, tables: &Tables, side: &Side) -> [u64; 3] {
+    let ([row, steps, used], rows, entries) = (side.position, rows(tables), entries(side.journal().len()));
+    match random.below(8) {
+        0..=2 => inside(random, tables, side.journal().len()),
+        3 => [row.wrapping_add(1), steps, used],
+        4 => [row, steps, random.pick(&[0, entries, entries + 1])],
+        5 => [random.pick(&[0, rows, rows + 1, u64::MAX]), steps, used],
+        6 => [row, random.pick(&[0, used, used.wrapping_add(1), u64::MAX]), used],
+        _ => [values::any(random), values::any(random), values::any(random)],
+    }
+}
+
+/// A jump's or LABEL's label, or a condition's name, so that the tables still load.
+fn label_or_condition(random: &mut Random, tables: &Tables) -> Action {
+    let flow: Vec<(usize, &[u64])> =
+        tables.instructions().enumerate().filter(|(_, row)| (11..=14).contains(&row[0])).collect();
+    let Some(&(at, row)) = random.choose(&flow) else {
+        return Action::Memory(0, values::any(random));
+    };
+    let other = random.pick(&flow).1[4];
+    match (row[0], random.below(3)) {
+        (12 | 13, 0) => {
+            let names: Vec<u64> = tables.regions().map(|r| r[0]).collect();
+            Action::Table(5, at * INSTRUCTION + 2, random.choose(&names).copied().unwrap_or(98))
+        }
+        _ => Action::Table(5, at * INSTRUCTION + 4, random.pick(&[98, other, other])),
     }
 }

@@ -7,7 +7,7 @@ const LIMITS: [usize; 6] = [64, 32, 256, 2048, 1024, 512];
 const CELLS: u64 = 4096;
 
 pub fn damage(random: &mut Random, list: &mut List) {
-    match random.below(9) {
+    match random.below(11) {
         0 => not_whole(random, list),
         1 => over_limit(random, list),
         2 | 3 => foreign_word(random, list),
@@ -15,6 +15,7 @@ pub fn damage(random: &mut Random, list: &mut List) {
         5 => cells(random, list),
         6 => lent(random, list),
         7 => instruction_word(random, list),
+        8 | 9 => label_or_condition(random, list),
         _ => argument_or_parameter(random, list),
     }
 }
@@ -95,10 +96,25 @@ fn instruction_word(random: &mut Random, list: &mut List) {
         (_, 0) => row.copy_from_slice(&[10, 1, 0, 0, 0, 0, 3, 0, 0]),
         (9, 1) => row[2] = 98,
         (9, _) => row[4] = row[4].saturating_sub(1),
-        (8 | 10, _) => {}
+        (8 | 10..=15, _) => {}
         // An undeclared name, or another region's.
         (_, 1) => row[2] = random.below(200),
         _ => row[random.pick(&[2, 4, 7])] = list.tables.regions.first().copied().unwrap_or(0),
+    }
+}
+
+/// Another label for one, or a condition of any region or none.
+fn label_or_condition(random: &mut Random, list: &mut List) {
+    let names: Vec<u64> = list.tables.regions().map(|r| r[0]).collect();
+    let rows = &mut list.tables.instructions;
+    let flow: Vec<usize> = (0..rows.len()).step_by(INSTRUCTION).filter(|&at| (11..=14).contains(&rows[at])).collect();
+    let labels: Vec<u64> = flow.iter().map(|at| rows[at + 4]).collect();
+    if let Some(&at) = random.choose(&flow) {
+        let other = random.pick(&labels);
+        match (rows[at], random.below(2)) {
+            (12 | 13, 0) => rows[at + 2] = random.choose(&names).copied().unwrap_or(98),
+            _ => rows[at + 4] = random.pick(&[98, other]),
+        }
     }
 }
 

@@ -1,4 +1,5 @@
-//! Lists by our calls alone whose journal has just the entries that 02 counts for their program, or one less.
+//! Lists by our calls alone whose journal has just the entries that 02 counts for their program, which has no jump, or
+//! one less.
 use crate::{
     list::{Action, List},
     player::Call,
@@ -23,7 +24,7 @@ struct Lists {
 impl Journals {
     pub fn seen(&mut self, call: &Call) {
         self.spare = call.spare;
-        self.full |= call.spare.is_some() && call.number == 13;
+        self.full |= call.spare.is_some() && (call.number == 13 || call.stopped_by() == Some(13));
     }
 
     pub fn played(&mut self, list: &List) {

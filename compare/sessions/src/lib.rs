@@ -1,9 +1,11 @@
-//! Call lists by chance through frame, journal_length, open, forward and back, against the plain machine on the same
-//! lent words and 02's claim about a frame's count, and against demand 3's machine and 02's claim about the journal where
-//! only our calls wrote.
+//! Call lists by chance through frame, journal_length, open, forward, back and run, against the plain machine on the
+//! same lent words and 02's claims about a frame's count, a step's entries and runs, and against demand 3's machine and
+//! 02's claim about the journal where only our calls wrote.
 mod actions;
+mod claims;
 mod damage;
 mod externs;
+mod flow;
 mod journals;
 mod list;
 mod options;
@@ -12,6 +14,7 @@ mod programs;
 mod replies;
 mod report;
 mod rows;
+mod runs;
 mod shrink;
 mod side;
 mod values;

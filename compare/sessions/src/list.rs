@@ -8,7 +8,7 @@ pub struct List {
     /// The lent words before the first call.
     pub memory: Vec<u64>,
     pub journal: Vec<u64>,
-    pub position: [u64; 2],
+    pub position: [u64; 3],
     pub actions: Vec<Action>,
 }
 
@@ -21,11 +21,13 @@ pub enum Action {
     /// With its reply.
     Forward(Vec<u64>),
     Back,
+    /// With its allowance.
+    Run(u64),
     /// A foreign writer's word at that place of memory, journal or one of the six tables; and its position.
     Memory(usize, u64),
     Journal(usize, u64),
     Table(usize, usize, u64),
-    Position([u64; 2]),
+    Position([u64; 3]),
 }
 
 /// One of the six tables, in 01's order.
@@ -66,8 +68,8 @@ impl List {
 impl Action {
     /// One of ours, and not a foreign writer's.
     pub fn is_call(&self) -> bool {
-        use Action::{Back, Forward, Frame, JournalLength, Open};
-        matches!(self, Frame(_) | JournalLength | Open | Forward(_) | Back)
+        use Action::{Back, Forward, Frame, JournalLength, Open, Run};
+        matches!(self, Frame(_) | JournalLength | Open | Forward(_) | Back | Run(_))
     }
 
     /// The row that frame is asked about.
@@ -86,6 +88,7 @@ impl Action {
             Action::Forward(reply) if reply.is_empty() => "forward".to_string(),
             Action::Forward(reply) => format!("forward, reply of {} words: {}", reply.len(), some(reply)),
             Action::Back => "back".to_string(),
+            Action::Run(allowance) => format!("run, allowance {allowance}"),
             Action::Memory(at, word) => format!("foreign memory word {at} = {word:x}"),
             Action::Journal(at, word) => format!("foreign journal word {at} = {word:x}"),
             Action::Table(table, at, word) => format!("foreign word {at} of table {table} = {word:x}"),

@@ -1,5 +1,6 @@
 //! Plays a call list on both sides and compares everything after every call.
 use crate::{
+    claims::{broken, has_jumps},
     list::{set_table, Action, List},
     side::Side,
 };
@@ -14,10 +15,27 @@ pub struct Call<'a> {
     pub looked: u64,
     /// What journal_length gave.
     pub entries: u64,
+    /// What run gave.
+    pub ran: [u64; 3],
+    /// The positions before and after.
+    pub from: [u64; 3],
+    pub to: [u64; 3],
     /// The row that frame was asked about, or that the position named before another call, if there is one.
     pub row: Option<&'a [u64]>,
-    /// Where demand 3's machine stands beside: how many entries the journal has above the sum that 02 counts.
+    /// Demand 3's machine stands beside.
+    pub replayed: bool,
+    /// Where it does and the program has no jump: how many entries the journal has above the sum that 02 counts.
     pub spare: Option<i64>,
+}
+
+impl Call<'_> {
+    /// The refusal that a run stopped at.
+    pub fn stopped_by(&self) -> Option<u64> {
+        match self.ran {
+            [_, 3, number] => Some(number),
+            _ => None,
+        }
+    }
 }
 
 /// What differs after a call, and the call's place in the list.
@@ -29,17 +47,15 @@ pub struct Difference {
 pub fn play(library: &dyn Session, list: &List, seen: &mut dyn FnMut(Call)) -> Option<Difference> {
     let mut both = Both::new(library, list);
     for (at, action) in list.actions.iter().enumerate() {
-        let done = both.ours.position[0];
+        let from = both.ours.position;
+        let before = matches!(action, Action::Run(_)).then(|| both.theirs.clone());
         let number = match both.act(action) {
             Ok(Some(number)) => number,
             Ok(None) => continue,
             Err(what) => return Some(Difference { at, what }),
         };
-        let (looked, entries, spare) = (both.ours.looked[0], both.ours.entries[0], both.spare());
-        let row = row(&both.tables, action.frame_row().unwrap_or(done));
-        let call = Call { action, number, looked, entries, row, spare };
-        let broken = || both.replay.as_ref().and_then(|replay| replay.broken(number, &both.theirs));
-        let what = miscounted(&call, &both.theirs).or_else(broken);
+        let call = both.call(action, number, from);
+        let what = broken(&call, &both.lent, before.as_ref(), &both.theirs).or_else(|| both.outgrown(number));
         seen(call);
         if let Some(what) = what {
             return Some(Difference { at, what });
@@ -48,22 +64,8 @@ pub fn play(library: &dyn Session, list: &List, seen: &mut dyn FnMut(Call)) -> O
     None
 }
 
-/// The spot of a tree's first node.
-const FIRST_NODE: u64 = 4;
-
-/// "The count is the failing node's place in its tree plus 1, or the whole tree's where none fails."
-fn miscounted(call: &Call, library: &Side) -> Option<String> {
-    let (looked, spot) = (library.looked[0], library.error[2]);
-    let count = match (call.action, call.number) {
-        (Action::Frame(_), 0) => call.row.map_or(0, |row| row[3]),
-        (Action::Frame(_), 5) => (spot + 1).saturating_sub(FIRST_NODE),
-        _ => return None,
-    };
-    (looked != count).then(|| format!("02's claim: {looked} nodes looked at, not {count}"))
-}
-
-fn row(tables: &Tables, done: u64) -> Option<&[u64]> {
-    tables.instructions.chunks_exact(INSTRUCTION).nth(usize::try_from(done).ok()?)
+pub fn row(tables: &Tables, number: u64) -> Option<&[u64]> {
+    tables.instructions.chunks_exact(INSTRUCTION).nth(usize::try_from(number).ok()?)
 }
 
 /// The plain machine and the library, each lent tables of its own, and demand 3's machine beside them.
@@ -103,13 +105,30 @@ impl<'a> Both<'a> {
         if number == 0 && *action == Action::Open {
             self.replay = Some(Replay::new(&self.tables, &self.theirs));
         } else if let Some(replay) = &mut self.replay {
-            same(replay.call(action, number))?;
+            same(replay.call(action, number, self.theirs.ran))?;
         }
         same(self.replay.as_ref().and_then(|replay| replay.differs(&self.theirs)))
     }
 
-    fn spare(&self) -> Option<i64> {
-        self.replay.as_ref().map(|replay| replay.entries as i64 - replay.sum as i64)
+    fn call<'b>(&'b self, action: &'b Action, number: u64, from: [u64; 3]) -> Call<'b> {
+        let Side { looked, entries, ran, position, .. } = self.ours;
+        let spare = self.replay.as_ref().and_then(|replay| Some(replay.entries as i64 - replay.sum? as i64));
+        Call {
+            action,
+            number,
+            looked: looked[0],
+            entries: entries[0],
+            ran,
+            from,
+            to: position,
+            row: row(&self.tables, action.frame_row().unwrap_or(from[0])),
+            replayed: self.replay.is_some(),
+            spare,
+        }
+    }
+
+    fn outgrown(&self, number: u64) -> Option<String> {
+        self.replay.as_ref().and_then(|replay| replay.outgrown(number, &self.theirs))
     }
 }
 
@@ -122,9 +141,9 @@ struct Replay {
     history: History,
     /// Memory past the cells as open left it.
     past: Vec<u64>,
-    /// The journal's entries, and the sum that 02 counts for the program.
+    /// The journal's entries, and the sum that 02 counts for the program, which "holds without jumps".
     entries: u64,
-    sum: u64,
+    sum: Option<u64>,
 }
 
 impl Replay {
@@ -133,17 +152,22 @@ impl Replay {
         let history = History::new(tables, entries as u64);
         let cells = history.replay().0.len();
         let past = opened.memory()[cells..].to_vec();
-        Replay { history, past, entries: entries as u64, sum: journal_entries(tables) }
+        let sum = (!has_jumps(tables)).then(|| journal_entries(tables));
+        Replay { history, past, entries: entries as u64, sum }
     }
 
-    /// The answer must be the number.
-    fn call(&mut self, action: &Action, number: u64) -> Option<String> {
-        let answer = match action {
-            Action::Forward(reply) => self.history.forward(reply),
-            Action::Back => self.history.back(),
-            _ => number,
+    /// The answer must be the number, and a run's what it told.
+    fn call(&mut self, action: &Action, number: u64, ran: [u64; 3]) -> Option<String> {
+        let (answer, told) = match action {
+            Action::Forward(reply) => (self.history.forward(reply), ran),
+            Action::Back => (self.history.back(), ran),
+            Action::Run(allowance) => (0, self.history.run(*allowance)),
+            _ => (number, ran),
         };
-        (answer != number).then(|| format!("number: demand 3's machine {answer}, library {number}"))
+        if answer != number {
+            return Some(format!("number: demand 3's machine {answer}, library {number}"));
+        }
+        (told != ran).then(|| format!("steps, stop, refusal: demand 3's machine {told:?}, library {ran:?}"))
     }
 
     fn differs(&self, library: &Side) -> Option<String> {
@@ -160,9 +184,10 @@ impl Replay {
 
     /// "With a journal of at least that many entries no sequence of forward and back meets refusal 13, and the entries
     /// in use never exceed the sum."
-    fn broken(&self, number: u64, library: &Side) -> Option<String> {
-        let (entries, sum, used) = (self.entries, self.sum, library.position[1]);
-        if number == 13 && entries >= sum {
+    fn outgrown(&self, number: u64, library: &Side) -> Option<String> {
+        let (entries, sum, used) = (self.entries, self.sum?, library.position[2]);
+        let met = number == 13 || library.ran[1..] == [3, 13];
+        if met && entries >= sum {
             return Some(format!("02's claim: 13 with a journal of {entries} entries, the sum is {sum}"));
         }
         (used > sum).then(|| format!("02's claim: {used} entries in use, the sum is {sum}"))

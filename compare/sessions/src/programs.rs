@@ -12,15 +12,19 @@ pub struct Builder<'a> {
     pub tables: Tables,
     /// How likely a part is chosen as the rules want it, in percent.
     pub care: u64,
+    /// What jumps go to; their rows are put last.
+    pub labels: Vec<u64>,
 }
 
 pub fn program(random: &mut Random) -> Tables {
     let care = random.pick(&[100, 100, 100, 100, 98, 80]);
-    let mut builder = Builder { random, tables: Tables::default(), care };
+    let mut builder = Builder { random, tables: Tables::default(), care, labels: Vec::new() };
+    builder.labels();
     match builder.random.below(100) {
         0 => builder.at_the_limits(),
         1 => builder.wide(),
         2..=5 => builder.calls(),
+        6..=13 => builder.counted_loop(),
         _ => builder.small(),
     }
     builder.tables
@@ -39,6 +43,7 @@ impl Builder<'_> {
         self.externs(externs);
         let most = self.random.pick(&[4, 20, 40, 80]);
         (0..self.random.size(most)).for_each(|_| self.row());
+        self.put_labels();
     }
 
     /// Mostly CALLs, as many as the longest journal is enough for and more. Each returns something, so that a reply
@@ -58,6 +63,7 @@ impl Builder<'_> {
                 _ => self.row_of(Self::call),
             }
         }
+        self.put_labels();
     }
 
     /// Exactly as many cells as a machine can have, in few regions.
@@ -71,6 +77,7 @@ impl Builder<'_> {
         self.regions(&lengths);
         self.externs(2);
         (0..self.random.size(16)).for_each(|_| self.row());
+        self.put_labels();
     }
 
     /// Every table as long as it may be; the rows past those that are used are there for the loader alone.
@@ -78,7 +85,8 @@ impl Builder<'_> {
         let lengths: Vec<u64> = (0..64).map(|_| self.random.below(5)).collect();
         self.regions(&lengths);
         self.externs(32);
-        while self.tables.instructions.len() < 512 * INSTRUCTION {
+        let room = 512 - 2 * self.labels.len();
+        while self.tables.instructions.len() < room * INSTRUCTION {
             let nodes = 2048 - self.tables.nodes.len() / NODE;
             let arguments = 1024 - self.tables.arguments.len() / ARGUMENT;
             match nodes.min(arguments) {
@@ -86,12 +94,14 @@ impl Builder<'_> {
                 _ => self.row(),
             }
         }
+        self.put_labels();
+        fill(&mut self.tables.instructions, 512 * INSTRUCTION, &crate::rows::NOP);
         fill(&mut self.tables.parameters, 256 * PARAMETER, &[7, 1, 2, 3, 0]);
         fill(&mut self.tables.nodes, 2048 * NODE, &[4, 0, 0]);
         fill(&mut self.tables.arguments, 1024 * ARGUMENT, &[2, 5, 6]);
     }
 
-    fn regions(&mut self, lengths: &[u64]) {
+    pub fn regions(&mut self, lengths: &[u64]) {
         // Mostly all kinds; INTEGER is needed for offsets.
         let mixed = self.random.chance(80);
         let shift = self.random.size(4);

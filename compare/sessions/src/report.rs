@@ -3,26 +3,47 @@ use crate::{
     journals::Journals,
     list::{Action, List},
     player::Call,
+    runs::Runs,
 };
 use plain::ENTRIES;
 use std::{collections::BTreeMap, io::Write, time::Instant};
 
-const CALLS: [&str; 5] = ["frame", "journal_length", "open", "forward", "back"];
+const CALLS: [&str; 6] = ["frame", "journal_length", "open", "forward", "back", "run"];
 
 /// The refusals that each call can give, in the papers' order.
-const REFUSALS: [&[u64]; 5] = [
+const REFUSALS: [&[u64]; 6] = [
     &[1, 2, 3, 5],
-    &[1, 2, 3, 10, 5, 9, 6, 7, 8],
-    &[1, 2, 3, 10, 4, 5, 9, 6, 7, 8],
-    &[1, 2, 3, 10, 4, 19, 11, 9, 6, 7, 8, 14, 17, 13, 18, 15, 16],
+    &[1, 2, 3, 10, 5, 9, 20, 21, 6, 7, 8],
+    &[1, 2, 3, 10, 4, 5, 9, 20, 21, 6, 7, 8],
+    &[1, 2, 3, 10, 4, 19, 11, 9, 20, 6, 7, 8, 14, 17, 13, 18, 15, 16],
     &[1, 2, 3, 10, 4, 19, 12],
+    &[1, 2, 3, 10, 4, 19],
 ];
 
-const FAMILIES: [&str; 11] =
-    ["arithmetic", "comparison", "logic", "unary", "move", "exchange", "load", "store", "frame", "call", "nop"];
+/// The last number of a refusal.
+const LAST: u64 = 21;
 
-/// Refusals that depend on the row.
-const SHOWN_BY_FAMILY: [u64; 10] = [9, 6, 7, 8, 17, 18, 14, 15, 16, 13];
+const FAMILIES: [&str; 16] = [
+    "arithmetic",
+    "comparison",
+    "logic",
+    "unary",
+    "move",
+    "exchange",
+    "load",
+    "store",
+    "frame",
+    "call",
+    "nop",
+    "jump",
+    "jump-when",
+    "jump-unless",
+    "label",
+    "halt",
+];
+
+/// Refusals that depend on the row, and 20.
+const SHOWN_BY_FAMILY: [u64; 11] = [9, 20, 6, 7, 8, 17, 18, 14, 15, 16, 13];
 
 #[derive(Default)]
 pub struct Report {
@@ -40,6 +61,7 @@ pub struct Report {
     /// Frames that failed before their last node, and at it.
     early: u64,
     late: u64,
+    runs: Runs,
 }
 
 /// A call by its place among them.
@@ -50,6 +72,7 @@ fn place(action: &Action) -> Option<usize> {
         Action::Open => Some(2),
         Action::Forward(_) => Some(3),
         Action::Back => Some(4),
+        Action::Run(_) => Some(5),
         _ => None,
     }
 }
@@ -61,9 +84,10 @@ impl Report {
             None => return,
         };
         self.journals.seen(call);
+        self.runs.seen(call);
         *self.answers.entry((of, call.number)).or_default() += 1;
         // Frame and journal_length are none of that machine's calls.
-        if call.spare.is_some() && !matches!(call.action, Action::Frame(_) | Action::JournalLength) {
+        if call.replayed && !matches!(call.action, Action::Frame(_) | Action::JournalLength) {
             *self.replayed.entry((of, call.number)).or_default() += 1;
         }
         match (call.action, call.number, call.row) {
@@ -90,6 +114,10 @@ impl Report {
             .filter(|&(of, number)| !given(of, number))
             .map(|(of, number)| format!("{} {number}", CALLS[of]))
             .collect();
+        let stepped = |family| self.steps.keys().any(|&(of, _)| of == family);
+        let unstepped = (0..).zip(FAMILIES).filter(|&(family, _)| !stepped(family));
+        missing.extend(unstepped.map(|(_, name)| format!("forward over {name}")));
+        missing.extend(self.runs.missing());
         if self.early == 0 || self.late == 0 {
             missing.push("frames that fail before their last node, and at it".to_string());
         }
@@ -116,6 +144,7 @@ impl Report {
         );
         println!("frames that fail before their last node: {}, at it: {}", self.early, self.late);
         println!("{}; sums above {ENTRIES}: {}", self.journals.text(), self.above);
+        println!("{}", self.runs.text());
         let missing = self.missing();
         println!("not reached: {}", if missing.is_empty() { "none".to_string() } else { missing.join(", ") });
         println!("differ {}", self.differ);
@@ -123,9 +152,9 @@ impl Report {
 
     fn print_answers(&self) {
         println!("answers that agreed, in brackets those also compared with demand 3's machine:");
-        let line = |columns: [String; 5]| columns.iter().map(|column| format!("{column:>22}")).collect::<String>();
+        let line = |columns: [String; 6]| columns.iter().map(|column| format!("{column:>22}")).collect::<String>();
         println!("{:>8}{}", "number", line(CALLS.map(String::from)));
-        for number in 0..=19 {
+        for number in 0..=LAST {
             let column = |of: usize| {
                 let count = |table: &BTreeMap<_, u64>| table.get(&(of, number)).copied().unwrap_or(0);
                 let can = number == 0 || REFUSALS[of].contains(&number);
@@ -135,7 +164,7 @@ impl Report {
                     (all, replayed) => format!("{all} {:<10}", format!("({replayed})")),
                 }
             };
-            println!("{}", format!("{number:>8}{}", line([0, 1, 2, 3, 4].map(column))).trim_end());
+            println!("{}", format!("{number:>8}{}", line([0, 1, 2, 3, 4, 5].map(column))).trim_end());
         }
     }
 

@@ -19,6 +19,7 @@ impl Builder<'_> {
 
     fn tried(&mut self) -> Option<[u64; 9]> {
         match self.random.below(42) {
+            _ if !self.labels.is_empty() && self.random.chance(35) => self.flow(),
             0..=4 => self.arithmetic(),
             5..=8 => self.comparison(),
             9..=13 => self.logic(),
@@ -35,7 +36,7 @@ impl Builder<'_> {
     }
 
     /// Name and index of a cell, and its region's kind.
-    fn cell(&mut self, kinds: &[u64]) -> Option<([u64; 2], u64)> {
+    pub fn cell(&mut self, kinds: &[u64]) -> Option<([u64; 2], u64)> {
         let [name, kind, length] = self.region(kinds)?;
         Some(([name, self.index(length)], kind))
     }

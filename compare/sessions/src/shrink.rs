@@ -78,8 +78,9 @@ fn plainer_action<'a>(list: &'a List, i: usize, action: &Action) -> Candidates<'
         Action::Position(position) => {
             changed(list, nearer(*position), move |l, position| l.actions[i] = Action::Position(position))
         }
-        Action::Frame(row) => {
-            changed(list, vec![row / 2, row.saturating_sub(1)], move |l, row| l.actions[i] = Action::Frame(row))
+        Action::Frame(row) => changed(list, less(*row), move |l, row| l.actions[i] = Action::Frame(row)),
+        Action::Run(allowance) => {
+            changed(list, less(*allowance), move |l, allowance| l.actions[i] = Action::Run(allowance))
         }
         _ => Box::new(std::iter::empty()),
     }
@@ -99,7 +100,7 @@ fn without_first(list: &mut List) {
     drain(&mut list.tables.instructions, 0..1, INSTRUCTION);
     list.position[0] = list.position[0].saturating_sub(1);
     for action in &mut list.actions {
-        if let Action::Position([row, _]) | Action::Frame(row) = action {
+        if let Action::Position([row, ..]) | Action::Frame(row) = action {
             *row = row.saturating_sub(1);
         }
     }
@@ -119,10 +120,19 @@ fn plainer_words(list: &List) -> Candidates<'_> {
     Box::new(tables.chain(memory).chain(changed(list, plainer(&list.journal), |l, (at, word)| l.journal[at] = word)))
 }
 
-/// Positions with one number half as big or one less.
-fn nearer([done, used]: [u64; 2]) -> Vec<[u64; 2]> {
-    let [a, b] = [done.saturating_sub(1), used.saturating_sub(1)];
-    vec![[done / 2, used], [done, used / 2], [a, used], [done, b]]
+/// Positions with one number less.
+fn nearer(position: [u64; 3]) -> Vec<[u64; 3]> {
+    let with = |word: usize, number| {
+        let mut nearer = position;
+        nearer[word] = number;
+        nearer
+    };
+    (0..3).flat_map(|word| less(position[word]).into_iter().map(move |number| with(word, number))).collect()
+}
+
+/// Half as big, one less.
+fn less(number: u64) -> Vec<u64> {
+    vec![number / 2, number.saturating_sub(1)]
 }
 
 fn reply_of(list: &mut List, i: usize) -> &mut Vec<u64> {

@@ -10,16 +10,20 @@ const GUARD: usize = 4;
 const NO_LOOKED: [u64; 1] = [0xEEEE];
 const NO_ENTRIES: [u64; 1] = [0xEEEE];
 const NO_ERROR: [u64; 6] = [0xE; 6];
+const NO_RAN: [u64; 3] = [0xEEEE; 3];
 
+#[derive(Clone)]
 pub struct Side<'a> {
     machine: &'a dyn Session,
     /// Guards included.
     memory: Vec<u64>,
     journal: Vec<u64>,
-    pub position: [u64; 2],
+    pub position: [u64; 3],
     pub looked: [u64; 1],
     pub entries: [u64; 1],
     pub error: [u64; 6],
+    /// Steps, stop, number.
+    pub ran: [u64; 3],
 }
 
 fn guarded(words: &[u64]) -> Vec<u64> {
@@ -35,7 +39,7 @@ impl<'a> Side<'a> {
     pub fn new(machine: &'a dyn Session, list: &List) -> Self {
         let (memory, journal) = (guarded(&list.memory), guarded(&list.journal));
         let (position, looked, entries) = (list.position, NO_LOOKED, NO_ENTRIES);
-        Side { machine, memory, journal, position, looked, entries, error: NO_ERROR }
+        Side { machine, memory, journal, position, looked, entries, error: NO_ERROR, ran: NO_RAN }
     }
 
     pub fn memory(&self) -> &[u64] {
@@ -50,13 +54,16 @@ impl<'a> Side<'a> {
     pub fn act(&mut self, tables: &Tables, action: &Action) -> Option<u64> {
         let (memory, journal) = (lent(&mut self.memory), lent(&mut self.journal));
         let position = &mut self.position;
-        (self.looked, self.entries, self.error) = (NO_LOOKED, NO_ENTRIES, NO_ERROR);
+        (self.looked, self.entries, self.error, self.ran) = (NO_LOOKED, NO_ENTRIES, NO_ERROR, NO_RAN);
         match action {
             Action::Frame(row) => Some(self.machine.frame(tables, *row, &mut self.looked, &mut self.error)),
             Action::JournalLength => Some(self.machine.journal_length(tables, &mut self.entries, &mut self.error)),
             Action::Open => Some(self.machine.open(tables, memory, journal, position, &mut self.error)),
             Action::Forward(reply) => Some(self.machine.forward(tables, memory, journal, position, reply)),
             Action::Back => Some(self.machine.back(tables, memory, journal, position)),
+            Action::Run(allowance) => {
+                Some(self.machine.run(tables, memory, journal, position, *allowance, &mut self.ran))
+            }
             Action::Memory(at, word) => {
                 set(memory, *at, *word);
                 None
@@ -73,12 +80,18 @@ impl<'a> Side<'a> {
         }
     }
 
+    /// Memory, journal, guards and position are the other's.
+    pub fn stands_as(&self, other: &Side) -> bool {
+        self.memory == other.memory && self.journal == other.journal && self.position == other.position
+    }
+
     /// The first word in which the library's side differs.
     pub fn differs(&self, library: &Side) -> Option<String> {
         words("position", &self.position, &library.position, 0)
             .or_else(|| words("nodes looked at", &self.looked, &library.looked, 0))
             .or_else(|| words("entries", &self.entries, &library.entries, 0))
             .or_else(|| words("type error", &self.error, &library.error, 0))
+            .or_else(|| words("steps, stop, refusal", &self.ran, &library.ran, 0))
             .or_else(|| words("memory", &self.memory, &library.memory, GUARD))
             .or_else(|| words("journal", &self.journal, &library.journal, GUARD))
     }

@@ -4,7 +4,7 @@ use std::fmt::Write;
 
 const KINDS: [&str; 4] = ["BIT", "INTEGER", "OCTET", "REAL"];
 
-const OPERATORS: [&[&str]; 11] = [
+const OPERATORS: [&[&str]; 16] = [
     &["ADD", "SUB", "DIV", "MUL"],
     &["EQ", "GE", "GT", "LE", "LT"],
     &["AND", "IOR", "XOR", "SHL", "SHR", "ASHR"],
@@ -16,6 +16,11 @@ const OPERATORS: [&[&str]; 11] = [
     &["SET-FREQUENCY", "SET-PHASE", "SET-SCALE", "SHIFT-FREQUENCY", "SHIFT-PHASE"],
     &["CALL"],
     &["NOP", "(another instruction)"],
+    &["JUMP"],
+    &["JUMP-WHEN"],
+    &["JUMP-UNLESS"],
+    &["LABEL"],
+    &["HALT"],
 ];
 
 /// The six tables, a row to a line.
@@ -84,7 +89,9 @@ fn instruction(tables: &Tables, row: &[u64]) -> String {
         7 => format!("{operator} n{} {second} {source}", row[2]),
         8 => format!("{operator} \"frame\" {}", expression(tables.nodes_of(row[2], row[3]))),
         9 => format!("{operator} n{}{}", row[2], arguments(tables.arguments_of(row[3], row[4]))),
-        10 => operator.to_string(),
+        10 | 15 => operator.to_string(),
+        11 | 14 => format!("{operator} @n{}", row[4]),
+        12 | 13 => format!("{operator} @n{} {first}", row[4]),
         _ => format!("{operator} {first} {source}"),
     }
 }

@@ -15,11 +15,11 @@ class Bench:
         self.script.all_tables([quil.regions() if regions is None else regions, list(externs), list(parameters), list(nodes),
                                 list(arguments), list(instructions)])
 
-    def lend(self, cells='', entries=ENTRIES, used=0, done=0):
+    def lend(self, cells='', entries=ENTRIES, used=0, row=0, steps=0):
         words = quil.cells(cells)
         self.script.lend_memory(marked(words, len(words) + 2))
         self.script.lend_journal(marked([], 3 * entries))
-        self.script.place(done, used)
+        self.script.place(row, steps, used)
 
     def step(self, number, row, cells='', reply=(), entries=ENTRIES, used=0):
         """The row alone on the cells."""

@@ -20,10 +20,13 @@ def argument(text):
     return [REFERENCE if '[' in text else IDENTIFIER, *quil.reference(text)]
 
 
-def call_tables(*calls):
-    """The arguments of all CALLs one after the other, and a row for each."""
+def call_tables(*texts):
+    """The arguments of all CALLs one after the other, and a row for each; other rows among them."""
     arguments, rows = [], []
-    for text in calls:
+    for text in texts:
+        if not text.startswith('CALL'):
+            rows += quil.row(text)
+            continue
         name, *given = text.split()[1:]
         rows += quil.row(f'CALL {name} {len(arguments) // 3} {len(given)}')
         arguments += [word for item in given for word in argument(item)]

@@ -89,9 +89,9 @@ def single_nodes(script):
 
 def this_row(script):
     """Frames among rows of which others fail; trees that begin past node 0, overlap, and lie before failing nodes."""
-    script.heading('ADD q[0] 1; nodes 1 to 4, 5, 3 to 4, 0 and 1 to 4 of % + r - % pi; ADD q[0] 1; HALT; CALL of no extern')
+    script.heading('ADD q[0] 1; nodes 1 to 4, 5, 3 to 4, 0 and 1 to 4 of % + r - % pi; ADD q[0] 1; OTHER; CALL of no extern')
     rows = ADD_UNDECLARED + frame(1, 4) + frame(5, 1, 1) + frame(3, 2, 2) + frame(0, 1, 3) + frame(1, 4, 4) + ADD_UNDECLARED
-    lend(script, rows + quil.program('HALT', 'CALL q 0 0', names=SMALL), nodes=words('% + r - % pi'))
+    lend(script, rows + quil.program('OTHER', 'CALL q 0 0', names=SMALL), nodes=words('% + r - % pi'))
     for row, looked in ((1, 4), (3, 2), (4, 1), (5, 4)):
         failed(script, looked, *FAILING['%'], row)
     counted(script, 1, 2)

@@ -10,13 +10,13 @@ def leaves(bench, row, cells, cell, word, entries_used=2):
     """The row on the cells, and the word that it leaves in one of them."""
     bench.step(0, row, cells)
     assert bench.script.memory[2 * quil.cell_of(cell) + 1] == word % WORD, row
-    assert bench.script.position == (1, entries_used), row
+    assert bench.script.position == (1, 1, entries_used), row
 
 
 def type_error(bench, row, kind, spot=1):
     opened(bench, 5, row, **program(row))
-    done, used = bench.script.position
-    assert bench.script.answers[-1].startswith(f'open 5 | {done} {used} {kind} 0 {spot} '), row
+    kept = ' '.join(map(str, bench.script.position))
+    assert bench.script.answers[-1].startswith(f'open 5 | {kept} {kind} 0 {spot} '), row
 
 
 def checked(bench):

@@ -9,10 +9,13 @@ from .bench import Bench
 from .calls import F, H, call_tables
 from .script import marked
 
-LISTS, SHORTEST, LONGEST = 40, 10, 30
+LISTS, SHORTEST, LONGEST = 77, 10, 30
 ENTRY_COUNTS = (0, 1, 2, 3, 3, 5, 8, 12, 20)
+ALLOWANCES = (0, 1, 2, 5, 2 ** 64 - 1)
 FOREIGN_WORDS = (0, 1, 2, 3, 4, 255, 256, 2 ** 63, 2 ** 64 - 1)
 VALUES = {BIT: (0, 1), INTEGER: (0, 1, 5, 2 ** 64 - 1), OCTET: (0, 7, 255), REAL: (0, bits_of(-1.5), 0x7FF0000000000001)}
+# 18 steps in 27 entries: MOVE, four times round, then HALT before a row that is never reached.
+COUNTDOWN = ('MOVE n[0] 5', 'LABEL @1', 'SUB n[0] 1', 'GT a[0] n[0] 1', 'JUMP-WHEN @1 a[0]', 'HALT', 'MOVE n[1] 9')
 
 
 class Draw:
@@ -35,16 +38,18 @@ def programs():
     divides = ('MOVE n[1] 0', 'DIV n[0] n[1]', 'MOVE n[1] 2')
     shifts = ('MOVE n[0] -1', 'SHL o[0] n[0]', 'NEG n[0]')
     reals = ('MOVE r[0] 1.5', 'DIV r[0] r[1]', 'EXCHANGE r[0] r[1]', 'LT a[1] r[0] r[1]', 'LOAD r[1] r n[0]', 'SUB r[0] r[0]', 'XOR a[1] a[0]')
-    halts = ('NEG n[0]', 'EXCHANGE n[0] n[0]', 'HALT', 'NOP')
+    others = ('NEG n[0]', 'EXCHANGE n[0] n[0]', 'OTHER', 'NOP')
     yield 'no CALL', {'instructions': quil.program(*plain)}
     yield 'REAL', {'instructions': quil.program(*reals)}
     yield 'divided by 0', {'instructions': quil.program(*divides)}
     yield 'shifted by -1', {'instructions': quil.program(*shifts)}
-    yield 'HALT inside', {'instructions': quil.program(*halts)}
+    yield 'OTHER inside', {'instructions': quil.program(*others)}
     yield 'CALLs', call_tables(F, H, 'CALL g', F)
-    mixed = call_tables(F, 'CALL v n')
-    rows = mixed['instructions']
-    yield 'CALLs and others', {**mixed, 'instructions': quil.program('MOVE n[0] 1') + rows[:9] + quil.program('ADD n[2] n[0]') + rows[9:]}
+    yield 'CALLs and others', call_tables('MOVE n[0] 1', F, 'ADD n[2] n[0]', 'CALL v n')
+    yield 'a loop', {'instructions': quil.program(*COUNTDOWN)}
+    yield 'a loop around a CALL', call_tables('LABEL @a', F, 'NOT a[0]', 'JUMP-UNLESS @a a[1]', 'JUMP-WHEN @n a[0]', 'EXCHANGE n[0] n[2]', 'LABEL @n', 'HALT')
+    yield 'a label twice', {'instructions': quil.program('NEG n[0]', 'LABEL @1', 'JUMP @1', 'LABEL @1')}
+    yield 'a condition not BIT', {'instructions': quil.program('LABEL @1', 'NOT n[0]', 'JUMP-UNLESS @1 n[0]')}
 
 
 def row_at(script):
@@ -87,7 +92,7 @@ def plant(draw, script):
 
 
 def play(draw, script):
-    chosen = draw.below(21)
+    chosen = draw.below(24)
     if chosen < 11:
         script.forward(reply(draw, script))
     elif chosen < 17:
@@ -96,15 +101,17 @@ def play(draw, script):
         plant(draw, script)
     elif chosen < 20:
         script.open()
-    else:
+    elif chosen < 21:
         misplaced(draw, script)
+    else:
+        script.run(draw.of(ALLOWANCES))
 
 
 def misplaced(draw, script):
-    """A step from a foreign position, which is then put back."""
+    """A call from a foreign position, which is then put back."""
     kept = script.position
-    script.place(draw.below(12), draw.below(8))
-    draw.of((script.forward, script.back))()
+    script.place(draw.below(12), draw.below(5), draw.below(8))
+    draw.of((script.forward, script.back, lambda: script.run(draw.below(5))))()
     script.place(*kept)
 
 

@@ -61,7 +61,7 @@ def refused(bench):
     opened(bench, 4, '4096 cells, a word short', memory=8191, regions=layout((OCTET, 1), (REAL, 4095)))
     for memory, journal in ((17, 6), (0, 6), (18, 7), (18, 5), (18, 6147), (18, 6145)):
         opened(bench, 4, f'{memory} words of memory, {journal} of journal', memory, journal)
-    opened(bench, 9, 'HALT', **program('NOP', 'HALT'))
+    opened(bench, 9, 'OTHER', **program('NOP', 'OTHER'))
     for number, call in ((6, 'CALL q'), (7, 'CALL g n'), (8, 'CALL v q')):
         opened(bench, number, call, **program('NOP', calls=('CALL g', call)))
 
@@ -91,16 +91,16 @@ def type_errors(bench):
 
 
 def orders(bench):
-    """Neighbours among 1, 2, 3, 10, 4, 5, 9 and 6, 7, 8 by row."""
+    """Neighbours among 1, 2, 3, 10, 4, 5, 9 and 6, 7, 8 by row; 20 and 21 are in labels.py."""
     opened(bench, 1, 'not whole and a word', regions=[1, 2], nodes=[7, 0, 0])
     opened(bench, 2, 'a word and two names', regions=[1, 0, 1] * 2, nodes=[7, 0, 0])
     opened(bench, 3, 'two names and cells', regions=[1, 0, 4097] * 2)
     opened(bench, 10, 'cells and memory', memory=0, regions=[1, 0, 4097])
     opened(bench, 4, 'memory and a type error', memory=17, **program('ADD q[0] 1'))
-    opened(bench, 5, 'HALT and then a type error', **program('HALT', 'ADD q[0] 1'))
+    opened(bench, 5, 'OTHER and then a type error', **program('OTHER', 'ADD q[0] 1'))
     opened(bench, 5, 'a type error and CALLs', **program('ADD q[0] 1', calls=('CALL q',)))
     bad = program('NOP', calls=('CALL q', 'CALL g n', 'CALL v q'))
-    opened(bench, 9, 'CALLs and HALT', **{**bad, 'instructions': bad['instructions'] + quil.row('HALT')})
+    opened(bench, 9, 'CALLs and OTHER', **{**bad, 'instructions': bad['instructions'] + quil.row('OTHER')})
     for number, calls in ((6, ('CALL q', 'CALL g n')), (7, ('CALL g n', 'CALL q')), (7, ('CALL g n', 'CALL v q')), (8, ('CALL v q', 'CALL g n')),
                           (8, ('CALL v q', 'CALL q')), (6, ('CALL q', 'CALL v q')), (7, ('CALL f q',))):
         opened(bench, number, ' and '.join(calls), **program(calls=calls))

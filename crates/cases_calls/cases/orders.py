@@ -8,30 +8,43 @@ from .script import marked
 
 REPLY = (0, 0, INTEGER, 5)
 HUGE = [11, 0, 4097]
+# In the order of forward's looks, which are a run's up to 19.
+CAUSES = (
+    (1, 'not whole', {'arguments': [1]}), (2, 'word', {'nodes': [7, 0, 0]}), (3, 'two externs', {'externs': [21, 4, 0, 0] * 2}),
+    (10, 'cells', {'regions': HUGE}), (4, 'journal', {'journal': 5}), (19, 'used', {'used': 9}), (9, 'OTHER', {'instructions': quil.row('OTHER')}))
+
+
+def two_of(causes):
+    """The earlier one's number, with each later one."""
+    for k, (number, what, change) in enumerate(causes):
+        for _, later, other in causes[k + 1:]:
+            yield number, f'{what} and {later}', {**other, **change}
 
 
 def whole_tables(bench):
     """1, 2, 3, 10, 4, 19, then 11 and 9, each with the next and with the last."""
-    causes = (
-        (1, 'not whole', {'arguments': [1]}), (2, 'word', {'nodes': [7, 0, 0]}), (3, 'two externs', {'externs': [21, 4, 0, 0] * 2}),
-        (10, 'cells', {'regions': HUGE}), (4, 'journal', {'journal': 5}), (19, 'used', {'used': 9}), (9, 'HALT', {'instructions': quil.row('HALT')}))
-    for k, (number, what, change) in enumerate(causes):
-        for _, later, other in causes[k + 1:]:
-            together(bench, number, f'{what} and {later}', {**other, **change})
+    for number, what, change in two_of(CAUSES):
+        together(bench, number, what, change)
     together(bench, 19, 'used and the end', {'used': 9, 'instructions': []})
-    together(bench, 19, 'done and HALT', {'done': 2, 'instructions': quil.row('HALT')})
+    together(bench, 19, 'row and OTHER', {'row': 2, 'instructions': quil.row('OTHER')})
+    together(bench, 19, 'steps and OTHER', {'steps': 1, 'instructions': quil.row('OTHER')})
     together(bench, 11, 'the end and a reply', {'instructions': [], 'reply': REPLY})
-    together(bench, 9, 'HALT and a full journal', {'instructions': quil.row('HALT'), 'journal': 0})
+    together(bench, 9, 'OTHER and a full journal', {'instructions': quil.row('OTHER'), 'journal': 0})
     together(bench, 11, 'the end and a full journal', {'instructions': [], 'journal': 0})
 
 
-def together(bench, number, what, change):
+def lend_changed(bench, what, change):
+    """A NOP but for what is changed."""
     tables = {key: change[key] for key in ('regions', 'externs', 'nodes', 'arguments') if key in change}
     bench.script.heading(what)
     bench.tables(change.get('instructions', quil.row('NOP')), **tables)
     bench.script.lend_memory(marked(quil.cells(), 20))
     bench.script.lend_journal(marked([], change.get('journal', 12)))
-    bench.script.place(change.get('done', 0), change.get('used', 0))
+    bench.script.place(*(change.get(word, 0) for word in ('row', 'steps', 'used')))
+
+
+def together(bench, number, what, change):
+    lend_changed(bench, what, change)
     bench.expect(number, bench.script.forward(change.get('reply', ())), what)
 
 

@@ -13,7 +13,8 @@ BENCH = (('a', BIT, 2), ('n', INTEGER, 3), ('e', INTEGER, 0), ('o', OCTET, 2), (
 
 OPERATOR_NAMES = {
     ARITHMETIC: 'ADD SUB DIV MUL', COMPARISON: 'EQ GE GT LE LT', LOGIC: 'AND IOR XOR SHL SHR ASHR', UNARY: 'NEG NOT',
-    MOVE: 'MOVE', EXCHANGE: 'EXCHANGE', LOAD: 'LOAD', STORE: 'STORE', CALL: 'CALL', OTHER: 'NOP HALT',
+    MOVE: 'MOVE', EXCHANGE: 'EXCHANGE', LOAD: 'LOAD', STORE: 'STORE', CALL: 'CALL', OTHER: 'NOP OTHER',
+    JUMP: 'JUMP', JUMP_WHEN: 'JUMP-WHEN', JUMP_UNLESS: 'JUMP-UNLESS', LABEL: 'LABEL', HALT: 'HALT',
     FRAME: 'SET-FREQUENCY SET-PHASE SET-SCALE SHIFT-FREQUENCY SHIFT-PHASE'}
 OPERATORS_OF = {name: (family, k) for family, names in OPERATOR_NAMES.items() for k, name in enumerate(names.split())}
 
@@ -44,16 +45,24 @@ def source(text, names=NAMES):
     return INTEGER_LITERAL, int(text) % WORD, 0
 
 
+def label(text, names=NAMES):
+    """`@` and a number, or a letter whose number it is."""
+    return names[text[1:]] if text[1:] in names else int(text[1:])
+
+
 def row(text, names=NAMES):
-    """The nine words of an instruction. A frame's operands are first node and count, a CALL's an extern, first argument and count."""
+    """The nine words of an instruction. A frame's operands are first node and count, a CALL's an extern, first argument and count, a jump's a label and a condition."""
     name, *operands = text.split()
     family, operator = OPERATORS_OF[name]
     if family == FRAME:
         return [family, operator, int(operands[0]), int(operands[1]), 0, 0, NO_SOURCE, 0, 0]
     if family == CALL:
         return [family, operator, names[operands[0]], int(operands[1]), int(operands[2]), 0, NO_SOURCE, 0, 0]
-    if family == OTHER:
+    if family in (OTHER, HALT):
         return [family, operator, 0, 0, 0, 0, NO_SOURCE, 0, 0]
+    if family in (LABEL, *JUMPS):
+        condition = reference(operands[1], names) if family in CONDITIONAL else (0, 0)
+        return [family, operator, *condition, label(operands[0], names), 0, NO_SOURCE, 0, 0]
     if family in (UNARY, EXCHANGE):
         references, tail = operands, (NO_SOURCE, 0, 0)
     else:

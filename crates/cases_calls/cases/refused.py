@@ -129,16 +129,18 @@ def replies(bench):
 
 
 def other_instruction(bench):
-    bench.step(9, 'HALT')
-    bench.step(9, 'HALT', reply=(0, 0, 0, 0))
+    bench.step(9, 'OTHER')
+    bench.step(9, 'OTHER', reply=(0, 0, 0, 0))
 
 
 def positions(bench):
     bench.tables(quil.program('NOP', 'NEG n[0]'))
-    for number, done, used in ((11, 2, 0), (11, 2, ENTRIES), (19, 3, 0), (19, 2 ** 64 - 1, 0), (19, 0, ENTRIES + 1), (19, 1, 2 ** 64 - 1),
-                               (19, 2, ENTRIES + 1), (13, 1, ENTRIES - 1), (13, 0, ENTRIES), (0, 1, 2), (0, 0, 3)):
-        bench.script.heading(f'done {done} of 2, used {used} of {ENTRIES}')
-        bench.lend(used=used, done=done)
+    for number, row, steps, used in (
+            (11, 2, 0, 0), (11, 2, 2, ENTRIES), (11, 2, ENTRIES, ENTRIES), (19, 3, 0, 0), (19, 3, 3, ENTRIES), (19, 2 ** 64 - 1, 0, 0), (19, 0, 0, ENTRIES + 1),
+            (19, 1, 1, 2 ** 64 - 1), (19, 2, 2, ENTRIES + 1), (19, 0, 1, 0), (19, 2, 2, 1), (19, 0, ENTRIES + 1, ENTRIES), (19, 0, 2 ** 64 - 1, ENTRIES),
+            (13, 1, 1, ENTRIES - 1), (13, 0, 0, ENTRIES), (0, 1, 1, 2), (0, 1, 0, 0), (0, 0, 0, 3), (0, 0, 3, 3)):
+        bench.script.heading(f'row {row} of 2, {steps} steps, used {used} of {ENTRIES}')
+        bench.lend(used=used, row=row, steps=steps)
         bench.expect(number, bench.script.forward(), 'position')
     bench.script.heading('an empty program')
     bench.tables([])
@@ -154,7 +156,7 @@ def buffers(bench):
         bench.script.heading(f'{memory} words of memory, {journal} of journal')
         bench.script.lend_memory(marked(quil.cells('n0=1')[:memory], memory))
         bench.script.lend_journal(marked([], journal))
-        bench.script.place(0, 0)
+        bench.script.place(0, 0, 0)
         bench.expect(number, bench.script.forward(), 'buffers')
 
 
@@ -164,7 +166,7 @@ def many_cells(bench):
         bench.tables(quil.row('NOP'), regions=[word for k, length in enumerate(lengths) for word in (k, 0, length)])
         bench.script.lend_memory(marked([], 8192))
         bench.script.lend_journal(marked([], 12))
-        bench.script.place(0, 0)
+        bench.script.place(0, 0, 0)
         bench.expect(number, bench.script.forward(), 'cells')
 
 

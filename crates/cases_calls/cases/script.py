@@ -31,7 +31,7 @@ class Script:
         self.lines, self.answers = ['# Written by model.py, with what each call must answer.'], []
         self.tables = [[] for _ in TABLE_SIGNS]
         self.given = []
-        self.memory, self.journal, self.position, self.passed = [], [], (0, 0), 0
+        self.memory, self.journal, self.position, self.passed = [], [], (0, 0, 0), 0
 
     def heading(self, text):
         self.lines.append('= ' + text)
@@ -73,10 +73,10 @@ class Script:
     def lend_journal(self, words):
         self.lend('J', self.journal, words)
 
-    def place(self, done, used):
-        if (done, used) != self.position:
-            self.position = done, used
-            self.lines.append(joined('p', done, used))
+    def place(self, row, steps, used):
+        if (row, steps, used) != self.position:
+            self.position = row, steps, used
+            self.lines.append(joined('p', row, steps, used))
 
     def walk_from(self, passed):
         """The place that the next walk begins at, nodes passed."""
@@ -132,6 +132,14 @@ class Script:
         def play(memory, journal):
             return self.moved(session.back(self.tables, memory, journal, self.position))
         return self.call('back', 'b', play, self.position)
+
+    def run(self, allowance):
+        def play(memory, journal):
+            shown = session.run(self.tables, memory, journal, self.position, allowance)
+            self.moved(shown[:3])
+            return shown
+        self.give(allowance)
+        return self.call('run', 'u', play, self.position)
 
     def check(self):
         return self.call('check', 'c', lambda memory, journal: kept.check(self.tables))

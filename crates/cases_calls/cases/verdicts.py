@@ -97,8 +97,8 @@ def frame_expressions(script):
 
 
 def programs(script):
-    for texts in (('NOP', 'NOP'), ('HALT', 'CALL q 0 0'), ('NOP', 'ADD a[0] 1.5'), ('ADD a[0] 1.5', 'MOVE q[0] 1'),
-                  ('MOVE q[0] 1', 'ADD a[0] 1.5'), ('CALL q 0 0', 'ADD a[0] 1'), ('HALT', 'STORE n n[0] q[0]'),
+    for texts in (('NOP', 'NOP'), ('OTHER', 'CALL q 0 0'), ('NOP', 'ADD a[0] 1.5'), ('ADD a[0] 1.5', 'MOVE q[0] 1'),
+                  ('MOVE q[0] 1', 'ADD a[0] 1.5'), ('CALL q 0 0', 'ADD a[0] 1'), ('OTHER', 'STORE n n[0] q[0]'),
                   ('MOVE n[9] n[8]', 'MOVE n[9] r[8]'), ('MOVE n[9] n[8]', 'EXCHANGE r[9] r[8]'), ()):
         checked(script, ', '.join(texts) or 'no row', texts)
     for last in ('NEG a[0]', 'NOT a[0]'):

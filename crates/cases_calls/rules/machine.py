@@ -1,5 +1,6 @@
-"""One row's outcome on the cells: a refusal, or its writes as (cell, kind, word) in order."""
+"""One row's outcome on the cells: a refusal, or its writes as (cell, kind, word) in order and the row that it leads to."""
 from .calls import Immediate, Vector, resolve
+from .labels import row_of_label
 from .outcome import need
 from .tables import *
 from .words import *
@@ -183,10 +184,31 @@ def call(machine, tables, row, reply):
     return [reply_write(machine, resolved, *reply[i:i + 4]) for i in range(0, len(reply), 4)]
 
 
-def outcome(tables, memory, row, reply):
+def is_taken(machine, row):
+    """A jump "WHEN on 1, UNLESS on 0", where "only a BIT cell .. has a rule"."""
+    if row.family == JUMP:
+        return True
+    place, = machine.places((row.first, row.first_index))
+    _, word = machine.read(place, (BIT,))
+    return word == int(row.family == JUMP_WHEN)
+
+
+def led_to(machine, rows, number):
+    """The next row, but "a taken jump goes to its LABEL's row .., HALT to the end"."""
+    row = rows[number]
+    if row.family == HALT:
+        return len(rows)
+    if row.family in JUMPS and is_taken(machine, row):
+        return row_of_label(rows, row.second)
+    return number + 1
+
+
+def outcome(tables, memory, number, reply):
     machine = Machine(tables.regions, memory)
+    row = tables.instructions[number]
     if row.family == CALL:
-        return call(machine, tables, row, reply)
+        return call(machine, tables, row, reply), number + 1
     need(not reply, 17)
     step = STEPS.get(row.family)
-    return step(machine, row) if step else []
+    writes = step(machine, row) if step else []
+    return writes, led_to(machine, tables.instructions, number)

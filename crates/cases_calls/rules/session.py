@@ -1,13 +1,16 @@
-"""The journal's length for a program; open, forward and back on lent memory and journal."""
+"""The journal's length for a program; open, forward, back and run on lent memory and journal. A position is row, steps not taken back, entries used."""
 from .calls import resolve
 from .check import type_error
 from .kept import loaded
+from .labels import conditions_fit, labels_fit
 from .machine import outcome
-from .outcome import TypeErrors, need
+from .outcome import Refused, TypeErrors, need
 from .tables import CALL, EXCHANGE, FRAME, OTHER
 
 CELL_LIMIT, ENTRY_LIMIT = 4096, 2048
 OTHER_INSTRUCTION = 1
+# Where a run stops.
+ALLOWANCE, END, BEFORE_CALL, REFUSAL = range(4)
 
 
 def cell_count(tables):
@@ -33,11 +36,13 @@ def is_other(row):
 
 
 def accept(tables):
-    """The refusals 5, 9, and 6, 7, 8 by row."""
+    """The refusals 5, 9, 20, 21, and 6, 7, 8 by row."""
     error = type_error(tables)
     if error:
         raise TypeErrors(error)
     need(not any(map(is_other, tables.instructions)), 9)
+    labels_fit(tables.instructions)
+    conditions_fit(tables)
     for row in tables.instructions:
         if row.family == CALL:
             resolve(tables, row)
@@ -60,39 +65,66 @@ def open_session(words, memory, journal):
     accept(tables)
     cells = [word for region in tables.regions for _ in range(region.length) for word in (region.kind, 0)]
     memory[:len(cells)] = cells
-    return 0, 0
+    return 0, 0, 0
 
 
-def forward(words, memory, journal, position, reply):
-    """The next position; the writes and their entries are made."""
+def prepare_at(words, memory, journal, position):
+    """The decoded tables, after the refusals up to 19: "more steps than entries is 19"; a row past the last is the end and no 19."""
     tables = prepare(words, memory, journal)
-    done, used = position
-    entries = len(journal) // 3
-    need(done <= len(tables.instructions) and used <= entries, 19)
-    need(done < len(tables.instructions), 11)
-    row = tables.instructions[done]
-    need(not is_other(row), 9)
-    writes = outcome(tables, memory, row, reply)
-    need(len(writes) + 1 <= entries - used, 13)
+    row, steps, used = position
+    need(row <= len(tables.instructions) and steps <= used <= len(journal) // 3, 19)
+    return tables
+
+
+def step(tables, memory, journal, position, reply):
+    """Forward after 19."""
+    number, steps, used = position
+    need(number < len(tables.instructions), 11)
+    need(not is_other(tables.instructions[number]), 9)
+    labels_fit(tables.instructions)
+    writes, led = outcome(tables, memory, number, reply)
+    need(len(writes) + 1 <= len(journal) // 3 - used, 13)
     for cell, kind, word in writes:
         journal[3 * used:3 * used + 3] = [cell, memory[2 * cell], memory[2 * cell + 1]]
         memory[2 * cell:2 * cell + 2] = [kind, word]
         used += 1
-    journal[3 * used:3 * used + 3] = [len(writes), 0, 0]
-    return done + 1, used + 1
+    journal[3 * used:3 * used + 3] = [len(writes), number, 0]
+    return led, steps + 1, used + 1
+
+
+def forward(words, memory, journal, position, reply):
+    """The next position; the writes and their entries are made."""
+    return step(prepare_at(words, memory, journal, position), memory, journal, position, reply)
+
+
+def run(words, memory, journal, position, allowance):
+    """The next position, the steps taken, the stop and a refusal's number: "before each step, come allowance, end, CALL, refusal"."""
+    tables = prepare_at(words, memory, journal, position)
+    rows, taken = tables.instructions, 0
+    while True:
+        if taken == allowance:
+            return *position, taken, ALLOWANCE, 0
+        if position[0] == len(rows):
+            return *position, taken, END, 0
+        if rows[position[0]].family == CALL:
+            return *position, taken, BEFORE_CALL, 0
+        try:
+            position = step(tables, memory, journal, position, [])
+        except Refused as refusal:
+            return *position, taken, REFUSAL, refusal.number
+        taken += 1
 
 
 def back(words, memory, journal, position):
-    """The position before; the last step's writes are taken back."""
-    tables = prepare(words, memory, journal)
-    done, used = position
-    need(done <= len(tables.instructions) and used <= len(journal) // 3, 19)
-    need(done > 0, 12)
-    need(used > 0, 19)
-    changes = journal[3 * (used - 1)]
+    """The position before; the last step's writes are taken back. A step without an entry was 19 with the position."""
+    tables = prepare_at(words, memory, journal, position)
+    _, steps, used = position
+    need(steps > 0, 12)
+    changes, left, _ = journal[3 * (used - 1):3 * used]
     need(changes <= used - 1, 19)
+    need(left < len(tables.instructions), 19)
     entries = [journal[3 * i:3 * i + 3] for i in range(used - 1 - changes, used - 1)]
     need(all(cell < cell_count(tables) for cell, _, _ in entries), 19)
     for cell, kind, word in reversed(entries):
         memory[2 * cell:2 * cell + 2] = [kind, word]
-    return done - 1, used - 1 - changes
+    return left, steps - 1, used - 1 - changes

@@ -9,7 +9,8 @@ BIT, INTEGER, OCTET, REAL, NONE = range(5)
 SCALAR, FIXED, VARIABLE = range(3)
 ADDRESS, FUNCTION_CALL, INFIX, NUMBER, PI, PREFIX, VARIABLE_NODE = range(7)
 IDENTIFIER, REFERENCE, IMMEDIATE = range(3)
-ARITHMETIC, COMPARISON, LOGIC, UNARY, MOVE, EXCHANGE, LOAD, STORE, FRAME, CALL, OTHER = range(11)
+ARITHMETIC, COMPARISON, LOGIC, UNARY, MOVE, EXCHANGE, LOAD, STORE, FRAME, CALL, OTHER, JUMP, JUMP_WHEN, JUMP_UNLESS, LABEL, HALT = range(16)
+JUMPS, CONDITIONAL = (JUMP, JUMP_WHEN, JUMP_UNLESS), (JUMP_WHEN, JUMP_UNLESS)
 INTEGER_LITERAL, REAL_LITERAL, SOURCE_REFERENCE, NO_SOURCE = range(4)
 
 
@@ -133,7 +134,7 @@ def argument_allowed(row):
 
 OPERATORS = {ARITHMETIC: 4, COMPARISON: 5, LOGIC: 6, UNARY: 2, FRAME: 5, OTHER: 2}
 FORMS = {LOGIC: (INTEGER_LITERAL, SOURCE_REFERENCE), LOAD: (SOURCE_REFERENCE,)}
-WITHOUT_SOURCE = (UNARY, EXCHANGE, FRAME, CALL, OTHER)
+WITHOUT_SOURCE = (UNARY, EXCHANGE, FRAME, CALL, OTHER, *JUMPS, LABEL, HALT)
 
 
 def source_allowed(row):
@@ -157,13 +158,17 @@ def operands_allowed(row, tables):
         return tree and row.second == 0 and row.second_index == 0
     if row.family == CALL:
         return is_range(row.first_index, row.second, tables.arguments) and row.second_index == 0
-    if row.family == OTHER:
+    if row.family in (OTHER, HALT):
         return row.first == row.first_index == row.second == row.second_index == 0
+    if row.family in (JUMP, LABEL):
+        return row.first == row.first_index == row.second_index == 0
+    if row.family in CONDITIONAL:
+        return row.second_index == 0
     return True
 
 
 def instruction_allowed(row, tables):
-    return (row.family <= OTHER and row.operator < OPERATORS.get(row.family, 1)
+    return (row.family <= HALT and row.operator < OPERATORS.get(row.family, 1)
             and source_allowed(row) and operands_allowed(row, tables))
 
 

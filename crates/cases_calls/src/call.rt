@@ -18,7 +18,7 @@ fn play(
     tables: &[u64],
     memory: &mut [u64],
     journal: &mut [u64],
-    position: &mut [u64; 2],
+    position: &mut [u64; 3],
     place: &mut [u64; 1],
 ) {
     match sign {
@@ -26,6 +26,7 @@ fn play(
         b'o' => steps::open(tables, memory, journal, position, &mut [UNWRITTEN; 6]),
         b'f' => steps::forward(tables, memory, journal, position),
         b'b' => steps::back(tables, memory, journal, position),
+        b'u' => steps::run(tables, memory, journal, position, &mut [UNWRITTEN; 3]),
         b'c' => kept::check(tables, &mut [UNWRITTEN; 6]),
         b'n' => kept::frame(tables, &mut [UNWRITTEN; 1], &mut [UNWRITTEN; 6]),
         b'v' => kept::resolve(tables, memory, &mut [UNWRITTEN; 1]),
@@ -51,7 +52,7 @@ fn told(
     tables: &[u64],
     memory: &mut [u64],
     journal: &mut [u64],
-    position: &mut [u64; 2],
+    position: &mut [u64; 3],
     place: &mut [u64; 1],
 ) {
     let mut memory_before = [0; MEMORY_WORDS];
@@ -70,7 +71,7 @@ pub fn call(
     tables: &[u64],
     memory: &mut [u64],
     journal: &mut [u64],
-    position: &mut [u64; 2],
+    position: &mut [u64; 3],
     place: &mut [u64; 1],
 ) {
     let words = least(length_of(tables, MEMORY), memory.len());

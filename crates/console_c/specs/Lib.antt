@@ -9,3 +9,4 @@ pub mod Open
 pub mod Forward
 pub mod Back
 pub mod JournalLength
+pub mod Run

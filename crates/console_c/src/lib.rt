@@ -9,3 +9,4 @@ pub mod open;
 pub mod reference;
 pub mod references;
 pub mod resolve;
+pub mod run;

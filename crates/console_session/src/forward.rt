@@ -7,7 +7,7 @@ use journal::position::Position;
 use session::answer::StepAnswer;
 use session::prepare::Prepared;
 use session::prepare::prepare;
-use session_forward::step::step_row;
+use session_forward::step::step_cells;
 
 pub fn forward(
     regions: &[u64],
@@ -35,7 +35,7 @@ pub fn forward(
     );
     match prepared {
         Prepared::Refused(number) => StepAnswer::Refused(number, position),
-        Prepared::Cells(n) => step_row(
+        Prepared::Cells(n) => step_cells(
             regions,
             externs,
             parameters,

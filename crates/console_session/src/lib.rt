@@ -2,3 +2,4 @@
 pub mod back;
 pub mod forward;
 pub mod open;
+pub mod run;

@@ -9,7 +9,7 @@ use lib.Seq.{sets, sets-eq, length-sets, length-take-le, take-at, drop-append-ad
 use Rattle.journal.specs.declared.cells.Write.{Write}
 use Rattle.journal.specs.Each.{Each, also}
 use Rattle.journal.specs.Cells.{put}
-use Rattle.journal.specs.Entries.{wordsOf, flatten, olds, log, closing, entered, journaled, changesAt, entryAt, entriesAt}
+use Rattle.journal.specs.Entries.{wordsOf, flatten, olds, log, closing, entered, journaled, changesAt, rowLeftAt, entryAt, entriesAt}
 
 -- ---- lengths
 
@@ -27,21 +27,21 @@ pub length-log : (m : List ℕ) (ws : List Write) → length (log m ws) ≡ 3 * 
 unfolding log
 length-log m ws = length-flatten (olds m ws) ∙ ap (λ (n : ℕ). 3 * n) (length-olds m ws)
 
-pub length-closing : (changes : ℕ) → length (closing changes) ≡ 3
+pub length-closing : (changes row : ℕ) → length (closing changes row) ≡ 3
 unfolding closing
-length-closing changes = refl
+length-closing changes row = refl
 
 -- a step uses one entry more than it has changes
-pub length-step : (m : List ℕ) (ws : List Write) → length (log m ws ++ closing (length ws)) ≡ 3 * (length ws + 1)
-length-step m ws = omega (arith, length-append (log m ws) (closing (length ws)), length-log m ws, length-closing (length ws))
+pub length-step : (row : ℕ) (m : List ℕ) (ws : List Write) → length (log m ws ++ closing (length ws) row) ≡ 3 * (length ws + 1)
+length-step row m ws = omega (arith, length-append (log m ws) (closing (length ws) row), length-log m ws, length-closing (length ws) row)
 
 pub length-entered : (j : List ℕ) (e : ℕ) (words : List ℕ) → length (entered j e words) ≡ length j
 unfolding entered
 length-entered j e words = length-sets j (3 * e) words
 
-pub length-journaled : (j : List ℕ) (used : ℕ) (m : List ℕ) (ws : List Write) → length (journaled j used m ws) ≡ length j
+pub length-journaled : (j : List ℕ) (used row : ℕ) (m : List ℕ) (ws : List Write) → length (journaled j used row m ws) ≡ length j
 unfolding journaled
-length-journaled j used m ws = length-entered j used (log m ws ++ closing (length ws))
+length-journaled j used row m ws = length-entered j used (log m ws ++ closing (length ws) row)
 
 -- ---- words stored from an entry on
 
@@ -79,42 +79,42 @@ entered-between pre rest e words l h =
 -- ---- the journal after a step
 
 -- a step that writes nothing closes at once
-pub journaled-none : (j : List ℕ) (used : ℕ) (m : List ℕ) → journaled j used m [] ≡ entered j used (closing 0)
+pub journaled-none : (j : List ℕ) (used row : ℕ) (m : List ℕ) → journaled j used row m [] ≡ entered j used (closing 0 row)
 unfolding journaled log flatten olds
-journaled-none j used m = refl
+journaled-none j used row m = refl
 
-pub journaled-before : (j : List ℕ) (used : ℕ) (m : List ℕ) (ws : List Write) → take (3 * used) (journaled j used m ws) ≡ take (3 * used) j
+pub journaled-before : (j : List ℕ) (used row : ℕ) (m : List ℕ) (ws : List Write) → take (3 * used) (journaled j used row m ws) ≡ take (3 * used) j
 unfolding journaled entered
-journaled-before j used m ws = take-sets j (3 * used) (3 * used) (log m ws ++ closing (length ws)) (omega arith)
+journaled-before j used row m ws = take-sets j (3 * used) (3 * used) (log m ws ++ closing (length ws) row) (omega arith)
 
 -- "Words past the used part are untouched"
-pub journaled-past : (j : List ℕ) (used : ℕ) (m : List ℕ) (ws : List Write)
-    → drop (3 * (used + (length ws + 1))) (journaled j used m ws) ≡ drop (3 * (used + (length ws + 1))) j
+pub journaled-past : (j : List ℕ) (used row : ℕ) (m : List ℕ) (ws : List Write)
+    → drop (3 * (used + (length ws + 1))) (journaled j used row m ws) ≡ drop (3 * (used + (length ws + 1))) j
 unfolding journaled entered
-journaled-past j used m ws =
-    drop-sets j (3 * (used + (length ws + 1))) (3 * used) (log m ws ++ closing (length ws)) (omega (arith, length-step m ws))
+journaled-past j used row m ws =
+    drop-sets j (3 * (used + (length ws + 1))) (3 * used) (log m ws ++ closing (length ws) row) (omega (arith, length-step row m ws))
 
 -- a journal whose used part is `pre`: the step's entries follow it
-pub journaled-between : (pre rest : List ℕ) (used : ℕ) (m : List ℕ) (ws : List Write) → length pre ≡ 3 * used → 3 * (length ws + 1) ≤ length rest
-    → journaled (pre ++ rest) used m ws ≡ pre ++ (log m ws ++ (closing (length ws) ++ drop (3 * (length ws + 1)) rest))
+pub journaled-between : (pre rest : List ℕ) (used row : ℕ) (m : List ℕ) (ws : List Write) → length pre ≡ 3 * used → 3 * (length ws + 1) ≤ length rest
+    → journaled (pre ++ rest) used row m ws ≡ pre ++ (log m ws ++ (closing (length ws) row ++ drop (3 * (length ws + 1)) rest))
 unfolding journaled
-journaled-between pre rest used m ws l h =
-    let step : List ℕ = log m ws ++ closing (length ws) in
-    let n = length-step m ws in
+journaled-between pre rest used row m ws l h =
+    let step : List ℕ = log m ws ++ closing (length ws) row in
+    let n = length-step row m ws in
     entered-between pre rest used step l (omega (arith, n))
     ∙ ap (λ (k : ℕ). pre ++ (step ++ drop k rest)) n
-    ∙ ap (λ (l : List ℕ). pre ++ l) (append-assoc (log m ws) (closing (length ws)) (drop (3 * (length ws + 1)) rest))
+    ∙ ap (λ (l : List ℕ). pre ++ l) (append-assoc (log m ws) (closing (length ws) row) (drop (3 * (length ws + 1)) rest))
 
 -- the same of any journal with room for the step
-pub journaled-parts : (j : List ℕ) (used : ℕ) (m : List ℕ) (ws : List Write) → 3 * (used + (length ws + 1)) ≤ length j
-    → journaled j used m ws ≡ take (3 * used) j ++ (log m ws ++ (closing (length ws) ++ drop (3 * (length ws + 1)) (drop (3 * used) j)))
-journaled-parts j used m ws h =
+pub journaled-parts : (j : List ℕ) (used row : ℕ) (m : List ℕ) (ws : List Write) → 3 * (used + (length ws + 1)) ≤ length j
+    → journaled j used row m ws ≡ take (3 * used) j ++ (log m ws ++ (closing (length ws) row ++ drop (3 * (length ws + 1)) (drop (3 * used) j)))
+journaled-parts j used row m ws h =
     let pre : List ℕ = take (3 * used) j in
     let rest : List ℕ = drop (3 * used) j in
     let l : length pre ≡ 3 * used = length-take-le (3 * used) j (omega arith) in
     let whole : pre ++ rest ≡ j = take-append-drop (3 * used) j in
     let n = sym (length-append pre rest) ∙ ap length whole in
-    ap (λ (x : List ℕ). journaled x used m ws) (sym whole) ∙ journaled-between pre rest used m ws l (omega arith)
+    ap (λ (x : List ℕ). journaled x used row m ws) (sym whole) ∙ journaled-between pre rest used row m ws l (omega arith)
 
 -- ---- entries read back
 
@@ -148,16 +148,22 @@ entries-log pre post m ws base e =
     ap (entriesAt (pre ++ (flatten (olds m ws) ++ post)) base) (sym (length-olds m ws)) ∙ entries-flatten pre post (olds m ws) base e
 
 -- the closing entry's count
-pub changes-closing : (pre post : List ℕ) (changes e : ℕ) → length pre ≡ 3 * e → changesAt (pre ++ (closing changes ++ post)) e ≡ changes
+pub changes-closing : (pre post : List ℕ) (changes row e : ℕ) → length pre ≡ 3 * e → changesAt (pre ++ (closing changes row ++ post)) e ≡ changes
 unfolding closing
-changes-closing pre post changes e l = getD-at pre changes (0 ∷ 0 ∷ post) 0 (3 * e) l
+changes-closing pre post changes row e l = getD-at pre changes (row ∷ 0 ∷ post) 0 (3 * e) l
+
+-- and its row left
+pub row-closing : (pre post : List ℕ) (changes row e : ℕ) → length pre ≡ 3 * e → rowLeftAt (pre ++ (closing changes row ++ post)) e ≡ row
+unfolding closing
+row-closing pre post changes row e l =
+    ap (λ (n : ℕ). getD (pre ++ (changes ∷ row ∷ 0 ∷ post)) (n + 1) 0) (sym l) ∙ getD-append-add pre (changes ∷ row ∷ 0 ∷ post) 1 0
 
 -- the closing entry of a step stands behind its entries
-pub changes-log : (pre post m : List ℕ) (ws : List Write) (base : ℕ) → length pre ≡ 3 * base
-    → changesAt (pre ++ (log m ws ++ (closing (length ws) ++ post))) (base + length ws) ≡ length ws
-changes-log pre post m ws base e =
-    ap (λ (j : List ℕ). changesAt j (base + length ws)) (sym (append-assoc pre (log m ws) (closing (length ws) ++ post)))
-    ∙ changes-closing (pre ++ log m ws) post (length ws) (base + length ws) (omega (arith, length-append pre (log m ws), length-log m ws))
+pub changes-log : (pre post : List ℕ) (row : ℕ) (m : List ℕ) (ws : List Write) (base : ℕ) → length pre ≡ 3 * base
+    → changesAt (pre ++ (log m ws ++ (closing (length ws) row ++ post))) (base + length ws) ≡ length ws
+changes-log pre post row m ws base e =
+    ap (λ (j : List ℕ). changesAt j (base + length ws)) (sym (append-assoc pre (log m ws) (closing (length ws) row ++ post)))
+    ∙ changes-closing (pre ++ log m ws) post (length ws) row (base + length ws) (omega (arith, length-append pre (log m ws), length-log m ws))
 
 -- ---- the entries from `base` on, one by one
 

@@ -31,11 +31,11 @@ unfolding undone
 undo-log pre post m ws base e = ap (restored (applied m ws)) (entries-log pre post m ws base e) ∙ restored-olds m ws
 
 -- a step with room in the journal, then undo
-pub undo-journaled : (j : List ℕ) (used : ℕ) (m : List ℕ) (ws : List Write) → 3 * (used + (length ws + 1)) ≤ length j
-    → undone (journaled j used m ws) used (length ws) (applied m ws) ≡ m
-undo-journaled j used m ws h =
-    ap (λ (x : List ℕ). undone x used (length ws) (applied m ws)) (journaled-parts j used m ws h)
-    ∙ undo-log (take (3 * used) j) (closing (length ws) ++ drop (3 * (length ws + 1)) (drop (3 * used) j)) m ws used
+pub undo-journaled : (j : List ℕ) (used row : ℕ) (m : List ℕ) (ws : List Write) → 3 * (used + (length ws + 1)) ≤ length j
+    → undone (journaled j used row m ws) used (length ws) (applied m ws) ≡ m
+undo-journaled j used row m ws h =
+    ap (λ (x : List ℕ). undone x used (length ws) (applied m ws)) (journaled-parts j used row m ws h)
+    ∙ undo-log (take (3 * used) j) (closing (length ws) row ++ drop (3 * (length ws + 1)) (drop (3 * used) j)) m ws used
     (length-take-le (3 * used) j (omega arith))
 
 -- ---- what restoring leaves alone

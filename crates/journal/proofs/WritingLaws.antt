@@ -49,16 +49,16 @@ module _ (cells₀ journal₀ : List ℕ) (used : ℕ) (ws : List Write) (cells 
       }
 
   -- `close` at entry used + k with k changes: k writes were made and none is left
-  pub writing-end : (k : ℕ) → rest ≡ [] → k ≡ i → cells′ ≡ cells → journal′ ≡ entered journal (used + k) (closing k)
-      → (cells′ ≡ applied cells₀ ws) × (journal′ ≡ journaled journal₀ used cells₀ ws)
+  pub writing-end : (row k : ℕ) → rest ≡ [] → k ≡ i → cells′ ≡ cells → journal′ ≡ entered journal (used + k) (closing k row)
+      → (cells′ ≡ applied cells₀ ws) × (journal′ ≡ journaled journal₀ used row cells₀ ws)
   unfolding applied log flatten olds entered journaled
-  writing-end k e ek ec ej =
+  writing-end row k e ek ec ej =
       let n : k ≡ length ws = omega (arith, r .counted, ap length e) in
       let all : journal ≡ entered journal₀ used (log cells₀ ws) = ap (λ (l : List Write). entered journal (used + i) (log cells l)) (sym e) ∙ r .journal-is in (
         ec ∙ ap (applied cells) (sym e) ∙ r .cells-are,
         ej
-            ∙ ap₂ (λ (j : List ℕ) (n : ℕ). entered j (used + n) (closing n)) all n
-            ∙ sym (entered-append journal₀ used (length ws) (log cells₀ ws) (closing (length ws)) (length-log cells₀ ws)),
+            ∙ ap₂ (λ (j : List ℕ) (n : ℕ). entered j (used + n) (closing n row)) all n
+            ∙ sym (entered-append journal₀ used (length ws) (log cells₀ ws) (closing (length ws) row) (length-log cells₀ ws)),
       )
 
 -- the first `write_cell`, at entry used

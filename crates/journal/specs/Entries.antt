@@ -1,4 +1,4 @@
--- "The journal, at most 2,048 entries of three words, gets cell, old kind, old word per write (exchange 2 in either order, call one per reply row), then change count, 0, 0."
+-- "The journal, at most 2,048 entries of three words, gets cell, old kind, old word per write (exchange 2 in either order, call one per reply row), then" a closing entry.
 use mathlib.Core.List.{List, [], _∷_, _++_}
 use Prim.Native.Nat.{ℕ, zero, suc, _+_, _*_}
 use lib.ListN.{length, getD}
@@ -32,21 +32,25 @@ olds memory (w ∷ ws) = held memory (w .cell) ∷ olds (put memory w) ws
 unfoldable pub log : List ℕ → List Write → List ℕ
 log memory ws = flatten (olds memory ws)
 
--- "then change count, 0, 0"
-unfoldable pub closing : ℕ → List ℕ
-closing changes = changes ∷ 0 ∷ 0 ∷ []
+-- "then change count, 0, 0"; 02, P4: "A closing entry's second word is the row left"
+unfoldable pub closing : ℕ → ℕ → List ℕ
+closing changes row = changes ∷ row ∷ 0 ∷ []
 
 -- words stored from an entry on; all other words stay
 unfoldable pub entered : List ℕ → ℕ → List ℕ → List ℕ
 entered journal entry words = sets journal (entryWidth * entry) words
 
--- the journal after a step that made the writes on memory, with `used` entries in use before it
-unfoldable pub journaled : List ℕ → ℕ → List ℕ → List Write → List ℕ
-journaled journal used memory ws = entered journal used (log memory ws ++ closing (length ws))
+-- the journal after a step of a row that made the writes on memory, with `used` entries in use before it
+unfoldable pub journaled : List ℕ → ℕ → ℕ → List ℕ → List Write → List ℕ
+journaled journal used row memory ws = entered journal used (log memory ws ++ closing (length ws) row)
 
 -- the change count of the closing entry there
 abbrev pub changesAt : List ℕ → ℕ → ℕ
 changesAt journal entry = getD journal (entryWidth * entry) 0
+
+-- the row left, of the closing entry there
+abbrev pub rowLeftAt : List ℕ → ℕ → ℕ
+rowLeftAt journal entry = getD journal (entryWidth * entry + 1) 0
 
 -- the entry of a write there
 abbrev pub entryAt : List ℕ → ℕ → Write

@@ -4,7 +4,7 @@ ghost use mathlib.Core.List.{[], _∷_};
 ghost use Prim.Native.Nat.{_+_, _*_, _≤_, _<_};
 ghost use lib.ListN.{length};
 ghost use Rattle.journal.specs.Cells.{cellWidth, put, held, applied};
-ghost use Rattle.journal.specs.Entries.{entryWidth, wordsOf, closing, changesAt, entered, journaled};
+ghost use Rattle.journal.specs.Entries.{entryWidth, wordsOf, closing, changesAt, rowLeftAt, entered, journaled};
 use crate::cells::CELL_WIDTH;
 use crate::cells::Write;
 use crate::cells::put_cell;
@@ -36,12 +36,12 @@ pub fn write_cell(cells: &mut [u64], journal: &mut [u64], entry: usize, w: Write
     put_cell(cells, w);
 }
 
-// The closing entry of a step with so many changes.
-pub fn close(journal: &mut [u64], entry: usize, changes: usize)
+// The closing entry of a step of a row, with so many changes.
+pub fn close(journal: &mut [u64], entry: usize, changes: usize, row: usize)
     requires { ⌜ entryWidth * entry + 2 < length (now journal) ⌝ }
-    ensures { λ r. ⌜ now (journal .exit) ≡ entered (now (journal .entry)) entry (closing changes) ⌝ }
+    ensures { λ r. ⌜ now (journal .exit) ≡ entered (now (journal .entry)) entry (closing changes row) ⌝ }
 {
-    put_entry(journal, entry, changes as u64, 0, 0);
+    put_entry(journal, entry, changes as u64, row as u64, 0);
 }
 
 // The change count of the closing entry there.
@@ -52,23 +52,38 @@ pub fn changes_at(journal: &[u64], entry: usize) -> usize
     journal[ENTRY_WIDTH * entry] as usize
 }
 
+// The row left, of the closing entry there.
+pub fn row_left_at(journal: &[u64], entry: usize) -> usize
+    requires { ⌜ entryWidth * entry + 1 < length (now journal) ⌝ }
+    ensures { λ r. ⌜ r ≡ rowLeftAt (now (journal .entry)) entry ⌝ }
+{
+    journal[ENTRY_WIDTH * entry + 1] as usize
+}
+
 // A step of one write, with its closing entry.
-pub fn write_one(cells: &mut [u64], journal: &mut [u64], used: usize, w: Write)
+pub fn write_one(cells: &mut [u64], journal: &mut [u64], used: usize, row: usize, w: Write)
     requires { ⌜ (cellWidth * w .cell + 1 < length (now cells)) × (entryWidth * (used + 2) ≤ length (now journal)) ⌝ }
     ensures { λ r. ⌜ now (cells .exit) ≡ applied (now (cells .entry)) (w ∷ []) ⌝ }
-    ensures { λ r. ⌜ now (journal .exit) ≡ journaled (now (journal .entry)) used (now (cells .entry)) (w ∷ []) ⌝ }
+    ensures { λ r. ⌜ now (journal .exit) ≡ journaled (now (journal .entry)) used row (now (cells .entry)) (w ∷ []) ⌝ }
 {
     write_cell(cells, journal, used, w);
-    close(journal, used + 1, 1);
+    close(journal, used + 1, 1, row);
 }
 
 // A step of two writes, made in this order, with its closing entry.
-pub fn write_two(cells: &mut [u64], journal: &mut [u64], used: usize, v: Write, w: Write)
+pub fn write_two(
+    cells: &mut [u64],
+    journal: &mut [u64],
+    used: usize,
+    row: usize,
+    v: Write,
+    w: Write,
+)
     requires { ⌜ (cellWidth * v .cell + 1 < length (now cells)) × (cellWidth * w .cell + 1 < length (now cells)) × (entryWidth * (used + 3) ≤ length (now journal)) ⌝ }
     ensures { λ r. ⌜ now (cells .exit) ≡ applied (now (cells .entry)) (v ∷ w ∷ []) ⌝ }
-    ensures { λ r. ⌜ now (journal .exit) ≡ journaled (now (journal .entry)) used (now (cells .entry)) (v ∷ w ∷ []) ⌝ }
+    ensures { λ r. ⌜ now (journal .exit) ≡ journaled (now (journal .entry)) used row (now (cells .entry)) (v ∷ w ∷ []) ⌝ }
 {
     write_cell(cells, journal, used, v);
     write_cell(cells, journal, used + 1, w);
-    close(journal, used + 2, 2);
+    close(journal, used + 2, 2, row);
 }

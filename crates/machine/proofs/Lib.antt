@@ -4,3 +4,5 @@ pub mod Reaches
 pub mod WritesLaws
 pub mod Exchange
 pub mod Looked
+pub mod NextLaws
+pub mod ConditionLaws

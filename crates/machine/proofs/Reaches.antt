@@ -86,3 +86,11 @@ module _ {regions cells : List ℕ} {x : Instruction} {n : NamedRegions} {a : Ad
   pub store-reach : x .family ≡ family.store → Storing regions cells x n a
   unfolding namesFirst indexesSecond operandsOf caseOf
   store-reach e = record { layout = p .layout; region = p .first-region (rw e refl); offset = second-there e refl; source = source-there }
+
+  pub when-reach : x .family ≡ family.jumpWhen → There cells (a .first)
+  unfolding indexesFirst operandsOf caseOf
+  when-reach e = first-there e refl
+
+  pub unless-reach : x .family ≡ family.jumpUnless → There cells (a .first)
+  unfolding indexesFirst operandsOf caseOf
+  unless-reach e = first-there e refl

@@ -19,9 +19,9 @@ use Rattle.tables.proofs.Passed.{passed}
 use Rattle.journal.specs.declared.cells.Write.{Write}
 use Rattle.journal.specs.Each.{Each, none, also}
 use Rattle.operands.specs.Address.{indexedOf, namesOf, addressesOf}
-use Rattle.operands.specs.Cells.{cellKind, readOf, sourceOf, offsetOf}
+use Rattle.operands.specs.Cells.{cellKind, readOf, sourceOf, offsetOf, conditionOf}
 use Rattle.operators.specs.Operators.{arithmeticKinds, arithmeticResult, comparisonKinds, logicKinds, logicResult, unaryKinds}
-use Rattle.machine.specs.Families.{putInto, noWrites, families, combinedOf, arithmeticOf, comparisonOf, logicOf, unaryOf, moveOf, exchangeOf, loadOf, storeOf, familyOf}
+use Rattle.machine.specs.Families.{putInto, noWrites, families, combinedOf, arithmeticOf, comparisonOf, logicOf, unaryOf, moveOf, exchangeOf, loadOf, storeOf, conditionalOf, familyOf}
 use Rattle.machine.specs.Outcome.{plainOutcome}
 use Rattle.operands.specs.declared.cell.Value.{Value}
 use Rattle.operands.specs.declared.address.NamedRegions.{NamedRegions}
@@ -130,6 +130,10 @@ module _ {regions : List ℕ} (laid : Laid regions) (cells : List ℕ) where
         bind (any (offsetOf cells (a .second))) (λ i u. bind (any (sourceOf cells x (a .source))) (λ s u.
         bind (reached (n .first) i h (indexedOf regions (n .first) i) refl) (λ c k. put-within c s k)))
 
+    conditional-within : Reaches 0 (conditionalOf cells a)
+    unfolding conditionalOf
+    conditional-within = bind (any (conditionOf cells (a .first))) (λ w u. fine (record { within = none; count = refl }))
+
     family-within : (f : ℕ) → Row f
     unfolding changesOf caseOf indexesFirst indexesSecond namesFirst operandsOf arithmeticOf logicOf
     family-within f =
@@ -143,6 +147,8 @@ module _ {regions : List ℕ} (laid : Laid regions) (cells : List ℕ) where
         ∷ (family.exchange, λ q t. picked 2 q (exchange-within (t .first refl) (t .second refl)))
         ∷ (family.load, λ q t. picked 1 q (load-within (t .first refl)))
         ∷ (family.store, λ q t. picked 1 q (store-within (t .region refl)))
+        ∷ (family.jumpWhen, λ q t. picked 0 q conditional-within)
+        ∷ (family.jumpUnless, λ q t. picked 0 q conditional-within)
         ∷ []
         )
         f

@@ -10,7 +10,7 @@ use Rattle.tables.specs.Family as family
 use Rattle.tables.specs.Refusal.{noRule}
 use Rattle.tables.specs.Outcome.{Outcome, ok, _>>=_, _>>_, need}
 use Rattle.tables.specs.declared.rows.Instruction.{Instruction}
-use Rattle.operands.specs.Cells.{cellKind, readOf, sourceOf, offsetOf, write}
+use Rattle.operands.specs.Cells.{cellKind, readOf, sourceOf, offsetOf, conditionOf, write}
 use Rattle.operands.specs.Address.{indexedOf}
 use Rattle.operators.specs.Operators.{arithmeticKinds, arithmeticResult, comparisonKinds, comparisonResult, logicKinds, logicResult, unaryKinds, unaryResult}
 use Rattle.operands.specs.declared.cell.Value.{Value}
@@ -108,6 +108,12 @@ storeOf regions cells x n a = do
 abbrev pub noWrites : Outcome (List Write)
 noWrites = ok []
 
+-- 02, P4: a jump with a condition reads it and changes nothing. Where a row leads is in Next.antt.
+unfoldable pub conditionalOf : List ℕ → Addresses → Outcome (List Write)
+conditionalOf cells a = do
+  word ← conditionOf cells (a .first)
+  noWrites
+
 abbrev pub families : List ℕ → List ℕ → Instruction → NamedRegions → Addresses → List (ℕ × Outcome (List Write))
 families regions cells x n a =
     (family.arithmetic, arithmeticOf cells x a)
@@ -118,8 +124,10 @@ families regions cells x n a =
     ∷ (family.exchange, exchangeOf cells a)
     ∷ (family.load, loadOf regions cells n a)
     ∷ (family.store, storeOf regions cells x n a)
+    ∷ (family.jumpWhen, conditionalOf cells a)
+    ∷ (family.jumpUnless, conditionalOf cells a)
     ∷ []
 
--- by the family; the rest are frame rows and NOP, as 9 and CALL were looked for before
+-- by the family; the rest are frame rows, NOP, JUMP, LABEL and HALT, as 9 and CALL were looked for before
 unfoldable pub familyOf : List ℕ → List ℕ → Instruction → NamedRegions → Addresses → Outcome (List Write)
 familyOf regions cells x n a = caseOf (x .family) (families regions cells x n a) noWrites

@@ -1,5 +1,7 @@
--- One row's outcome on the cells: Families (one definition a family), Exchange (its free order), Outcome (any row), Reach (what the functions ask for).
+-- One row on the cells: Families (one definition a family), Exchange (its free order), Outcome (any row), Next (where it leads), Condition (refusal 21), Reach (what the functions ask for).
 pub mod Families
 pub mod Exchange
 pub mod Reach
 pub mod Outcome
+pub mod Next
+pub mod Condition

@@ -4,13 +4,14 @@ use mathlib.Core.Bool.{Bool, not, cond, _&&_}
 use mathlib.Core.List.{List, [], _∷_}
 use lib.ListN.{length}
 use lib.Dec.{eqb}
-use Rattle.tables.specs.Refusal.{otherInstruction, unfitReply}
+use Rattle.tables.specs.Refusal.{otherInstruction, unfitReply, unfitLabels}
 use Rattle.tables.specs.Outcome.{Outcome, ok, refuse, _>>=_, _>>_, need}
 use Rattle.tables.specs.Family as family
 use Rattle.tables.specs.Operator as operator
 use Rattle.tables.specs.Tables.{Tables}
 use Rattle.tables.specs.Rows.{instructionAt}
 use Rattle.tables.specs.declared.rows.Instruction.{Instruction}
+use Rattle.labels.specs.Labels.{labelsFit}
 use Rattle.operands.specs.Address.{namesOf, addressesOf}
 use Rattle.machine.specs.Families.{familyOf}
 use Rattle.call_reply.specs.Call.{callOutcome}
@@ -33,10 +34,11 @@ plainOutcome regions cells x reply = do
   a ← addressesOf regions x n
   familyOf regions cells x n a
 
--- Any row. 01, Order: "9; a call: 6, 7, 8 (number only), 14 over scalar references, 17, ..; else 17, 18 names, .."
+-- Any row. 01, Order: "9; a call: 6, 7, 8 (number only), 14 over scalar references, 17, ..; else 17, 18 names, .."; 02, P4: "after 9 and before the calls, with 20"
 unfoldable pub outcomeOf : Tables → List ℕ → Instruction → List ℕ → Outcome (List Write)
 outcomeOf t cells x reply = do
   need (not (isOther x)) otherInstruction
+  need (labelsFit (t .instructions)) unfitLabels
   cond (isCall x) (callOutcome (t .regions) (t .externs) (t .parameters) (t .arguments) x reply) (plainOutcome (t .regions) cells x reply)
 
 -- the row of that number

@@ -1,6 +1,6 @@
 // What a row of each family does, from its operands' cells on.
 ghost use mathlib.Core.Path.{_≡_};
-ghost use Rattle.machine.specs.Families.{putInto, arithmeticOf, comparisonOf, logicOf, unaryOf, moveOf, exchangeOf, loadOf, storeOf, familyOf};
+ghost use Rattle.machine.specs.Families.{putInto, arithmeticOf, comparisonOf, logicOf, unaryOf, moveOf, exchangeOf, loadOf, storeOf, conditionalOf, familyOf};
 ghost use Rattle.machine.specs.Outcome.{rowOutcome};
 ghost use Rattle.operands.specs.Reach.{There};
 ghost use Rattle.machine.specs.Reach.{TargetAndSource, Compared, Exchanged, Loading, Storing, Placed};
@@ -11,11 +11,11 @@ use operands::address::Addresses;
 use operands::address::Indexed;
 use operands::address::NamedRegions;
 use operands::address::index_cell;
-use operands::cell::Offset;
 use operands::cell::Read;
+use operands::cell::ReadAs;
 use operands::cell::Value;
+use operands::cell::read_as;
 use operands::cell::read_cell;
-use operands::cell::read_offset;
 use operands::cell::read_source;
 use tables::family;
 use tables::refusal::INDEX_PAST_LENGTH;
@@ -187,7 +187,7 @@ pub fn load(regions: &[u64], cells: &[u64], n: NamedRegions, a: Addresses) -> Ro
     requires { ⌜ Loading (now regions) (now cells) n a ⌝ }
     ensures { λ r. ⌜ rowOutcome r ≡ loadOf (now (regions .entry)) (now (cells .entry)) n a ⌝ }
 {
-    let Offset::Word(i) = read_offset(cells, a.source) else {
+    let ReadAs::Word(i) = read_as(cells, a.source, kind::INTEGER) else {
         return RowOutcome::Refused(NO_RULE);
     };
     let Indexed::At(c) = index_cell(regions, n.second, i) else {
@@ -213,7 +213,7 @@ pub fn store(
     requires { ⌜ Storing (now regions) (now cells) x n a ⌝ }
     ensures { λ r. ⌜ rowOutcome r ≡ storeOf (now (regions .entry)) (now (cells .entry)) x n a ⌝ }
 {
-    let Offset::Word(i) = read_offset(cells, a.second) else {
+    let ReadAs::Word(i) = read_as(cells, a.second, kind::INTEGER) else {
         return RowOutcome::Refused(NO_RULE);
     };
     let Read::Holds(s) = read_source(cells, x, a.source) else {
@@ -225,7 +225,18 @@ pub fn store(
     put_into(cells, c, s)
 }
 
-// By the family. Frame rows and NOP change nothing.
+// A jump with a condition, which is read for its kind: it changes nothing.
+fn conditional(cells: &[u64], a: Addresses) -> RowOutcome
+    requires { ⌜ There (now cells) (a .first) ⌝ }
+    ensures { λ r. ⌜ rowOutcome r ≡ conditionalOf (now (cells .entry)) a ⌝ }
+{
+    let ReadAs::Word(_) = read_as(cells, a.first, kind::BIT) else {
+        return RowOutcome::Refused(NO_RULE);
+    };
+    RowOutcome::NoWrites
+}
+
+// By the family. Frame rows, NOP, JUMP, LABEL and HALT change nothing.
 pub fn family_outcome(
     regions: &[u64],
     cells: &[u64],
@@ -246,6 +257,8 @@ pub fn family_outcome(
         family::EXCHANGE => exchange(cells, a),
         family::LOAD => load(regions, cells, n, a),
         family::STORE => store(regions, cells, x, n, a),
+        family::JUMP_WHEN => conditional(cells, a),
+        family::JUMP_UNLESS => conditional(cells, a),
         _ => RowOutcome::NoWrites,
     }
 }

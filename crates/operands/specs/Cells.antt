@@ -3,7 +3,7 @@ use Prim.Native.Nat.{ℕ, _+_, _*_}
 use mathlib.Core.List.{List, [], _∷_}
 use lib.ListN.{getD}
 use lib.Dec.{eqb}
-use Rattle.words.specs.Kind.{integer, integerLiteral, realLiteral, fitsKind}
+use Rattle.words.specs.Kind.{bit, integer, integerLiteral, realLiteral, fitsKind}
 use Rattle.tables.specs.Refusal.{noRule}
 use Rattle.tables.specs.Cases.{caseOf}
 use Rattle.tables.specs.Source as source
@@ -14,8 +14,8 @@ use Rattle.journal.specs.declared.cells.Write.{Write}
 use Rattle.operands.specs.declared.cell.Value.{Value}
 use Rattle.operands.specs.declared.cell.Read.{Read}
 use Rattle.operands.specs.declared.cell.Read.the-variants as R
-use Rattle.operands.specs.declared.cell.Offset.{Offset}
-use Rattle.operands.specs.declared.cell.Offset.the-variants as O
+use Rattle.operands.specs.declared.cell.ReadAs.{ReadAs}
+use Rattle.operands.specs.declared.cell.ReadAs.the-variants as A
 
 abbrev pub cellKind : List ℕ → ℕ → ℕ
 cellKind cells c = getD cells (cellWidth * c) 0
@@ -41,12 +41,20 @@ sources cells x c =
 unfoldable pub sourceOf : List ℕ → Instruction → ℕ → Outcome Value
 sourceOf cells x c = caseOf (x .«source_form») (sources cells x c) (refuse noRule)
 
--- a LOAD's or STORE's offset: "offset not INTEGER is 4"
-unfoldable pub offsetOf : List ℕ → ℕ → Outcome ℕ
-offsetOf cells c = do
+-- the word of a cell that is read and has a rule as one kind alone
+unfoldable pub readWord : ℕ → List ℕ → ℕ → Outcome ℕ
+readWord kind cells c = do
   v ← readOf cells c
-  need (eqb (v .kind) integer) noRule
+  need (eqb (v .kind) kind) noRule
   ok (v .word)
+
+-- a LOAD's or STORE's offset: "offset not INTEGER is 4"
+abbrev pub offsetOf : List ℕ → ℕ → Outcome ℕ
+offsetOf = readWord integer
+
+-- a jump's condition. 02, P4: "in forward only a BIT cell there has a rule"
+abbrev pub conditionOf : List ℕ → ℕ → Outcome ℕ
+conditionOf = readWord bit
 
 -- what a row writes to cell c
 abbrev pub write : ℕ → ℕ → ℕ → Write
@@ -57,7 +65,7 @@ abbrev pub readOutcome : Read → Outcome Value
 readOutcome (R.Holds v) = ok v
 readOutcome R.NoRule = refuse noRule
 
--- the answer `Offset` of the code
-abbrev pub offsetOutcome : Offset → Outcome ℕ
-offsetOutcome (O.Word w) = ok w
-offsetOutcome O.NoRule = refuse noRule
+-- the answer `ReadAs` of the code
+abbrev pub readAsOutcome : ReadAs → Outcome ℕ
+readAsOutcome (A.Word w) = ok w
+readAsOutcome A.NoRule = refuse noRule

@@ -1,6 +1,6 @@
 // The operands that a row reads: cells and literals.
 ghost use mathlib.Core.Path.{_≡_};
-ghost use Rattle.operands.specs.Cells.{readOf, sourceOf, readOutcome, offsetOf, offsetOutcome};
+ghost use Rattle.operands.specs.Cells.{readOf, sourceOf, readOutcome, readWord, readAsOutcome};
 ghost use Rattle.operands.specs.Reach.{There, SourceThere};
 use journal::cells::CELL_WIDTH;
 use tables::rows::Instruction;
@@ -18,7 +18,7 @@ pub enum Read {
     NoRule,
 }
 
-pub enum Offset {
+pub enum ReadAs {
     Word(u64),
     NoRule,
 }
@@ -58,16 +58,16 @@ pub fn read_source(cells: &[u64], x: Instruction, c: usize) -> Read
     }
 }
 
-// The offset of a LOAD or a STORE: an INTEGER.
-pub fn read_offset(cells: &[u64], c: usize) -> Offset
+// The word of a cell that has a rule as one kind alone: an offset INTEGER, a condition BIT.
+pub fn read_as(cells: &[u64], c: usize, kind: u64) -> ReadAs
     requires { ⌜ There (now cells) c ⌝ }
-    ensures { λ r. ⌜ offsetOutcome r ≡ offsetOf (now (cells .entry)) c ⌝ }
+    ensures { λ r. ⌜ readAsOutcome r ≡ readWord kind (now (cells .entry)) c ⌝ }
 {
     let Read::Holds(v) = read_cell(cells, c) else {
-        return Offset::NoRule;
+        return ReadAs::NoRule;
     };
-    if v.kind != kind::INTEGER {
-        return Offset::NoRule;
+    if v.kind != kind {
+        return ReadAs::NoRule;
     }
-    Offset::Word(v.word)
+    ReadAs::Word(v.word)
 }

@@ -15,6 +15,8 @@ pub fn names_first(family: u64) -> bool
         family::EXCHANGE => true,
         family::LOAD => true,
         family::STORE => true,
+        family::JUMP_WHEN => true,
+        family::JUMP_UNLESS => true,
         _ => false,
     }
 }
@@ -31,6 +33,8 @@ pub fn indexes_first(family: u64) -> bool
         family::EXCHANGE => true,
         family::LOAD => true,
         family::STORE => false,
+        family::JUMP_WHEN => true,
+        family::JUMP_UNLESS => true,
         _ => false,
     }
 }
@@ -47,6 +51,8 @@ pub fn names_second(family: u64) -> bool
         family::EXCHANGE => true,
         family::LOAD => true,
         family::STORE => true,
+        family::JUMP_WHEN => false,
+        family::JUMP_UNLESS => false,
         _ => false,
     }
 }
@@ -63,6 +69,8 @@ pub fn indexes_second(family: u64) -> bool
         family::EXCHANGE => true,
         family::LOAD => false,
         family::STORE => true,
+        family::JUMP_WHEN => false,
+        family::JUMP_UNLESS => false,
         _ => false,
     }
 }

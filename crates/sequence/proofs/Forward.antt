@@ -20,6 +20,7 @@ use Rattle.journal.specs.Position.{advanced}
 use Rattle.journal.proofs.CellsLaws.{each-map, held-applied}
 use Rattle.journal.proofs.EntriesLaws.{length-journaled, journaled-between}
 use Rattle.machine.specs.Outcome.{isCall}
+use Rattle.machine.specs.Next.{nextRow}
 use Rattle.session.specs.Prepare.{entriesOf}
 use Rattle.session.specs.Position.{placedLook}
 use Rattle.session.specs.Leaves.{withTail}
@@ -28,11 +29,11 @@ use Rattle.session_forward.specs.Forward.{forwardLook, Left, left, forwardTable
 use Rattle.session.specs.declared.answer.StepAnswer.the-variants.{Moved, Refused}
 use Rattle.soundness.specs.Sound.{GoodWrite}
 use Rattle.sequence.specs.Calls.{ofStep, numberOf}
-use Rattle.sequence.specs.Replay.{Machine, State, made, cellsAfter, writesAfter, usedAfter, rowAt, cellsAt, usedAt, positionAt, replayLook, replayed, stepAnswer, nextState}
+use Rattle.sequence.specs.Replay.{Machine, State, made, placeAfter, writesAfter, usedAfter, rowAt, cellsAt, usedAt, positionAt, replayLook, replayed, stepAnswer, nextState}
 use Rattle.sequence.specs.Journal.{journalAfter, journalAt}
 use Rattle.sequence.specs.Claim.{Spared}
 use Rattle.sequence.proofs.Looks.{Steps, steps, refused-by-row, same-look}
-use Rattle.sequence.proofs.Reached.{length-journal, journal-parted, count, rows, Started, Within, typed-after, good-after, cells-taken, past-left, held-among, spent, prepared-at, position-fits}
+use Rattle.sequence.proofs.Reached.{length-journal, journal-parted, count, Started, InProgram, Within, typed-after, good-after, cells-taken, past-left, held-among, spent, prepared-at, position-fits}
 
 -- "its reply joins the history"
 abbrev pub joined : State → List ℕ → State
@@ -53,8 +54,12 @@ module _ {M : Machine} {past : List ℕ} (started : Started M past) where
 
   -- ---- what it leaves, by what the looks gave
 
+  -- the row that a step leads to
+  abbrev leadsOn : State → List ℕ → ℕ
+  leadsOn s cells = nextRow (M .tables .regions) (M .tables .instructions) cells (rowAt M s)
+
   abbrev leavesAt : State → List ℕ → Outcome (List Write) → Left
-  leavesAt s rest o = withTail (2 * count M) (cellsAt M s ++ past) (λ cells. session.stepped cells (journalAt M s ++ rest) (positionAt M s) o)
+  leavesAt s rest o = withTail (2 * count M) (cellsAt M s ++ past) (λ cells. session.stepped cells (journalAt M s ++ rest) (positionAt M s) (leadsOn s cells) o)
 
   pub record Forwarded (s : State) (rest reply : List ℕ) (o : Outcome (List Write)) : Type 0 where
     pub rest′ : List ℕ
@@ -69,24 +74,28 @@ module _ {M : Machine} {past : List ℕ} (started : Started M past) where
     made-is : ws ≡ writesAfter M (s .history) reply
     made-is = sym (ap made (seen .outcome-is))
 
-    position-is : advanced (positionAt M s) (length ws) ≡ positionAt M (joined s reply)
-    unfolding usedAfter
-    position-is = λ i. record { done = add-one (length (s .history)) i; used = usedAt M s + (length (made-is i) + 1) }
+    position-is : advanced (positionAt M s) (leadsOn s (take (2 * count M) (cellsAt M s ++ past))) (length ws) ≡ positionAt M (joined s reply)
+    unfolding placeAfter usedAfter
+    position-is = λ i. record {
+      row = leadsOn s (cells-taken started (s .history) i);
+      done = add-one (length (s .history)) i;
+      used = usedAt M s + (length (made-is i) + 1);
+    }
 
     memory-is : applied (take (2 * count M) (cellsAt M s ++ past)) ws ++ drop (2 * count M) (cellsAt M s ++ past) ≡ cellsAt M (joined s reply) ++ past
-    unfolding cellsAfter
+    unfolding placeAfter
     memory-is =
         ap₂ (λ (a b : List ℕ). applied a ws ++ b) (cells-taken started (s .history)) (past-left started (s .history))
         ∙ ap (λ (v : List Write). applied (cellsAt M s) v ++ past) made-is
 
-    journal-is : journaled (journalAt M s ++ rest) (usedAt M s) (take (2 * count M) (cellsAt M s ++ past)) ws
+    journal-is : journaled (journalAt M s ++ rest) (usedAt M s) (rowAt M s) (take (2 * count M) (cellsAt M s ++ past)) ws
         ≡ journalAt M (joined s reply) ++ drop (3 * (length ws + 1)) rest
     journal-is =
         let fits : 3 * (length ws + 1) ≤ length rest = omega (arith, spent started w, seen .fits) in
         let rest′ : List ℕ = drop (3 * (length ws + 1)) rest in
-        ap (λ (m : List ℕ). journaled (journalAt M s ++ rest) (usedAt M s) m ws) (cells-taken started (s .history))
-        ∙ journaled-between (journalAt M s) rest (usedAt M s) (cellsAt M s) ws (length-journal M (s .history)) fits
-        ∙ ap (λ (v : List Write). journalAt M s ++ (log (cellsAt M s) v ++ (closing (length v) ++ rest′))) made-is
+        ap (λ (m : List ℕ). journaled (journalAt M s ++ rest) (usedAt M s) (rowAt M s) m ws) (cells-taken started (s .history))
+        ∙ journaled-between (journalAt M s) rest (usedAt M s) (rowAt M s) (cellsAt M s) ws (length-journal M (s .history)) fits
+        ∙ ap (λ (v : List Write). journalAt M s ++ (log (cellsAt M s) v ++ (closing (length v) (rowAt M s) ++ rest′))) made-is
         ∙ sym (journal-parted M reply (s .history) rest′)
 
     moved : Forwarded s rest reply (ok ws)
@@ -95,8 +104,8 @@ module _ {M : Machine} {past : List ℕ} (started : Started M past) where
       rest′ = drop (3 * (length ws + 1)) rest;
       leaves-is = λ i. record { answer = Moved (position-is i); memory = memory-is i; journal = journal-is i };
       within = record {
-        steps = seen .row;
-        size = ap length (sym journal-is) ∙ length-journaled (journalAt M s ++ rest) (usedAt M s) (take (2 * count M) (cellsAt M s ++ past)) ws ∙ w .size;
+        steps = (seen .row, w .steps);
+        size = ap length (sym journal-is) ∙ length-journaled (journalAt M s ++ rest) (usedAt M s) (rowAt M s) (take (2 * count M) (cellsAt M s ++ past)) ws ∙ w .size;
       };
     }
 
@@ -131,14 +140,14 @@ module _ {M : Machine} {past : List ℕ} (started : Started M past) where
   forward-unanswered k some s reply never = unanswered-by k some s reply never (replayLook M s reply) refl
 
   -- "No call in it met an operand without a rule"
-  pub forward-ruled : (s : State) (reply : List ℕ) → length (s .history) ≤ rows M → replayLook M s reply ≡ refuse noRule → ⊥
+  pub forward-ruled : (s : State) (reply : List ℕ) → InProgram M (s .history) → replayLook M s reply ≡ refuse noRule → ⊥
   forward-ruled s reply l e =
       let r = refused-by-row M (started .prepared) s reply noRule (omega arith) (λ ws l o full. omega arith) e in
       started .sound .ruled (cellsAt M s) (rowAt M s) reply (typed-after started (s .history) l) (r .row) (r .outcome-is)
 
   -- ---- "a CALL changed only cells of regions in its write set"
 
-  module _ (s : State) (reply : List ℕ) (call : isCall (instructionAt (M .tables .instructions) (rowAt M s)) ≡ true) (c : ℕ) (l : c < count M)
+  module _ (s : State) (reply : List ℕ) (inside : InProgram M (s .history)) (call : isCall (instructionAt (M .tables .instructions) (rowAt M s)) ≡ true) (c : ℕ) (l : c < count M)
       (spared : Spared (M .tables) (instructionAt (M .tables .instructions) (rowAt M s)) c) where
     abbrev x : Instruction
     x = instructionAt (M .tables .instructions) (rowAt M s)
@@ -151,12 +160,12 @@ module _ {M : Machine} {past : List ℕ} (started : Started M past) where
 
     kept-by : (o : Outcome (List Write)) → replayLook M s reply ≡ o
         → held (cellsAt M (nextState s (joins s reply o)) ++ past) c ≡ held (cellsAt M s ++ past) c
-    unfolding cellsAfter _>>=_
+    unfolding placeAfter _>>=_
     kept-by (refuse n) e = refl
     kept-by (ok ws) e =
         let seen = steps M (started .prepared) s reply ws e in
         held-among started (reply ∷ s .history) c l
-        ∙ held-applied (cellsAt M s) (writesAfter M (s .history) reply) c (each-map apart (good-after started (s .history) reply (seen .row)))
+        ∙ held-applied (cellsAt M s) (writesAfter M (s .history) reply) c (each-map apart (good-after started (s .history) reply (seen .row, inside)))
         ∙ sym (held-among started (s .history) c l)
 
     pub forward-kept : held (cellsAt M (nextState s (joins s reply (replayLook M s reply))) ++ past) c ≡ held (cellsAt M s ++ past) c

@@ -1,4 +1,5 @@
--- A journal of the length that is counted is never full: of the replay machine's steps each uses no more entries than are counted for its row. Assumes nothing.
+-- A journal of the length that is counted is never full where no row is a jump: of the replay machine's steps each uses no more entries than are counted for its row, and no row
+-- is come to twice. Assumes nothing.
 use Prim.Native.Nat.{ℕ, _+_, _<_, _≤_}
 use mathlib.Core.Bool.{false≢true}
 use mathlib.Core.List.{List, [], _∷_}
@@ -15,9 +16,9 @@ use Rattle.tables.specs.Rows.{instructionAt}
 use Rattle.tables.proofs.Cases.{by-key, past-keys}
 use Rattle.journal.specs.declared.cells.Write.{Write}
 use Rattle.journal.specs.Each.{Each}
-use Rattle.journal.specs.Position.{rowOf}
 use Rattle.machine.specs.Outcome.{outcomeAt}
 use Rattle.machine.proofs.WritesLaws.{changes}
+use Rattle.machine.proofs.NextLaws.{next-past}
 use Rattle.call_reply.specs.Call.{replyLimit}
 use Rattle.operands.specs.Reach.{Laid}
 use Rattle.session.specs.Prepare.{entriesOf}
@@ -26,12 +27,13 @@ use Rattle.session_length.specs.Length.{lengthAnswer, lengthTables}
 use Rattle.session_length.proofs.EntriesLaws.{entries-next, entries-mono}
 use Rattle.soundness.specs.Sound.{Sound}
 use Rattle.soundness.proofs.Counts.{mostChanges, outcome-most}
-use Rattle.sequence.specs.Calls.{Call, Session}
-use Rattle.sequence.specs.Replay.{Machine, History, State, fresh, made, rowAfter, cellsAfter, writesAfter, usedAfter, rowAt, cellsAt, usedAt, replayLook}
-use Rattle.sequence.specs.JournalLength.{NotFull, Enough}
+use Rattle.session.specs.Session.{Session}
+use Rattle.sequence.specs.Calls.{Call}
+use Rattle.sequence.specs.Replay.{Machine, History, State, fresh, made, placeAfter, rowAfter, cellsAfter, writesAfter, usedAfter, rowAt, cellsAt, usedAt, replayLook}
+use Rattle.sequence.specs.JournalLength.{NotFull, NoJumps, Enough}
 use Rattle.sequence.proofs.Opened.{Accepts}
 use Rattle.sequence.proofs.Looks.{refused-by-row}
-use Rattle.sequence.proofs.Reached.{rows, Started, typed-after}
+use Rattle.sequence.proofs.Reached.{rows, InProgram, row-within, Started, typed-after}
 use Rattle.sequence.proofs.Sequence.{none-answers, machine, past, started, begins, state, same, ended, within}
 
 -- the most changes of a family, and its closing entry, are counted
@@ -77,29 +79,35 @@ module _ (M : Machine) (laid : Laid (M .tables .regions)) where
       at (ok ws) e = row-counted (cellsAfter M h) (rowAfter M h) reply e
       at (refuse n) e = omega (arith, most-counted (instructionAt instructions (rowAfter M h) .family))
 
-  -- ---- the entries in use, by the rows passed: the one law that leans on each step leading to the next row
+  -- ---- the entries in use, by the rows passed: the one law that leans on each step leading past its row
 
-  pub used-passed : (h : History) → usedAfter M h ≤ entriesBefore instructions (rowAfter M h)
-  unfolding usedAfter
-  used-passed [] = omega arith
-  used-passed (reply ∷ h) =
-      let next : entriesBefore instructions (rowAfter M (reply ∷ h)) ≡ entriesBefore instructions (rowAfter M h + 1) = ap (entriesBefore instructions) (omega arith) in
-      omega (arith, used-passed h, step-counted h reply, entries-next instructions (rowAfter M h), next)
+  pub used-passed : NoJumps (M .tables) → (h : History) → InProgram M h → usedAfter M h ≤ entriesBefore instructions (rowAfter M h)
+  unfolding placeAfter usedAfter
+  used-passed straight [] l = omega arith
+  used-passed straight (reply ∷ h) l =
+      let past = next-past (M .tables .regions) instructions (cellsAfter M h) (rowAfter M h) (l .0) (straight (rowAfter M h) (l .0)) in
+      omega (
+        arith,
+        used-passed straight h (l .1),
+        step-counted h reply,
+        entries-next instructions (rowAfter M h),
+        entries-mono instructions (rowAfter M h + 1) (rowAfter M (reply ∷ h)) past,
+      )
 
-  pub used-most : (h : History) → rowAfter M h ≤ rows M → usedAfter M h ≤ journalLength instructions
+  pub used-most : NoJumps (M .tables) → (h : History) → InProgram M h → usedAfter M h ≤ journalLength instructions
   unfolding journalLength
-  used-most h l = omega (arith, used-passed h, entries-mono instructions (rowAfter M h) (rows M) l)
+  used-most straight h l = omega (arith, used-passed straight h l, entries-mono instructions (rowAfter M h) (rows M) (row-within M h l))
 
   -- ---- 13
 
-  module _ (enough : journalLength instructions ≤ entriesOf (M .journalWords)) (s : State) (reply : List ℕ) where
-    room : (ws : List Write) → rowAt M s < rows M → outcomeAt (M .tables) (cellsAt M s) (rowAt M s) reply ≡ ok ws
+  module _ (straight : NoJumps (M .tables)) (enough : journalLength instructions ≤ entriesOf (M .journalWords)) (s : State) (reply : List ℕ) where
+    room : InProgram M (s .history) → (ws : List Write) → rowAt M s < rows M → outcomeAt (M .tables) (cellsAt M s) (rowAt M s) reply ≡ ok ws
         → usedAt M s + (length ws + 1) ≤ entriesOf (M .journalWords)
     unfolding journalLength
-    room ws l e =
+    room inside ws l e =
         omega (
           arith,
-          used-passed (s .history),
+          used-passed straight (s .history) inside,
           row-counted (cellsAt M s) (rowAt M s) reply e,
           entries-next instructions (rowAt M s),
           entries-mono instructions (rowAt M s + 1) (rows M) (omega arith),
@@ -107,10 +115,10 @@ module _ (M : Machine) (laid : Laid (M .tables .regions)) where
         )
 
     -- no row is refused with it, and there is room for what one writes
-    never-full : {past : List ℕ} → Started M past → length (s .history) ≤ rows M → replayLook M s reply ≡ refuse journalFull → ⊥
+    never-full : {past : List ℕ} → Started M past → InProgram M (s .history) → replayLook M s reply ≡ refuse journalFull → ⊥
     never-full started l e =
         let r = refused-by-row M (started .prepared) s reply journalFull (omega arith)
-        (λ ws h o full z. false≢true (sym full ∙ le-leb (usedAt M s + (length ws + 1)) (entriesOf (M .journalWords)) (room ws h o))) e in
+        (λ ws h o full z. false≢true (sym full ∙ le-leb (usedAt M s + (length ws + 1)) (entriesOf (M .journalWords)) (room l ws h o))) e in
         started .sound .journal-apart (cellsAt M s) (rowAt M s) reply (typed-after started (s .history) l) (r .row) (r .outcome-is)
 
 -- ---- after an accepted open
@@ -132,12 +140,13 @@ module _ (t : Tables) (sound : Sound t) (memory journal : List ℕ) (a : Accepts
   unfolding lengthTables
   enough = record {
     number = ap (lengthAnswer (t .instructions)) (a .verdict);
-    never-full = λ long.
+    never-full = λ straight long.
         subst (Each NotFull) (sym (same t sound memory journal a calls))
-        (none-answers begun journalFull (omega arith) (omega arith) (λ s reply. never-full M laid long s reply begun) calls fresh journal (begins t sound memory journal a));
-    passed =
-        subst (λ (z : Session). z .position .used ≤ entriesBefore (t .instructions) (rowOf (z .position))) (sym (ended t sound memory journal a calls)) (used-passed M laid h);
-    in-use =
+        (none-answers begun journalFull (omega arith) (omega arith) (λ s reply. never-full M laid straight long s reply begun) calls fresh journal (begins t sound memory journal a));
+    passed = λ straight.
+        subst (λ (z : Session). z .position .used ≤ entriesBefore (t .instructions) (z .position .row)) (sym (ended t sound memory journal a calls))
+        (used-passed M laid straight h (within t sound memory journal a calls .steps));
+    in-use = λ straight.
         subst (λ (z : Session). z .position .used ≤ journalLength (t .instructions)) (sym (ended t sound memory journal a calls))
-        (used-most M laid h (within t sound memory journal a calls .steps));
+        (used-most M laid straight h (within t sound memory journal a calls .steps));
   }

@@ -6,4 +6,5 @@ pub mod Forward
 pub mod Back
 pub mod Sequence
 pub mod JournalLength
+pub mod StepEntries
 pub mod Top

@@ -1,5 +1,6 @@
 -- What an accepted open has seen, and what it leaves: the facts of open that the sequence theorem uses. Assumes nothing.
 use Prim.Native.Nat.{ℕ, _*_}
+use mathlib.Core.Bool.{true}
 use mathlib.Core.List.{List, _++_}
 use mathlib.Core.Path.{_≡_, refl, ap, _∙_}
 use native.Mathlib.Omega.{arith}
@@ -7,12 +8,15 @@ use lib.ListN.{length, take, drop}
 use Rattle.tables.specs.Outcome.{Outcome, ok, refuse}
 use Rattle.tables.specs.Tables.{Tables}
 use Rattle.tables.specs.Cells.{cellCount}
+use Rattle.tables.proofs.Passed.{passed}
+use Rattle.labels.specs.Labels.{labelsFit}
 use Rattle.type_check.specs.Check.{checkOf}
 use Rattle.type_rules.specs.declared.error.Verdict.{Verdict}
 use Rattle.type_rules.specs.declared.error.Verdict.the-variants as T
 use Rattle.journal.specs.Position.{firstPosition}
 use Rattle.journal.specs.Cells.{cellWidth}
 use Rattle.operands.specs.Kinds.{zeros}
+use Rattle.machine.specs.Condition.{conditionsFit}
 use Rattle.session.specs.Prepare.{tablesLook, preparedOf}
 use Rattle.session.specs.Leaves.{withTail}
 use Rattle.session.specs.declared.answer.OpenAnswer.the-variants.{Opened}
@@ -20,7 +24,7 @@ use Rattle.session.proofs.Prepared as session
 use Rattle.session.proofs.Prepared.{Facts}
 use Rattle.session_open.specs.declared.verdict.OpenLook.{OpenLook}
 use Rattle.session_open.specs.declared.verdict.OpenLook.the-variants as L
-use Rattle.session_open.specs.Open.{unlessRefused, unlessError, programLook, programVerdict, tablesVerdict, openVerdict, openCells, openTables}
+use Rattle.session_open.specs.Open.{unlessRefused, unlessError, noOther, programLook, programVerdict, tablesVerdict, openVerdict, openCells, openTables}
 
 -- 1, 2, 3, 10 and 4 look at the tables and at lengths, which no call changes: after open neither forward nor back is refused with these numbers
 pub record Accepts (t : Tables) (memory : List ℕ) (words : ℕ) : Type 0 where
@@ -28,6 +32,7 @@ pub record Accepts (t : Tables) (memory : List ℕ) (words : ℕ) : Type 0 where
   pub facts : Facts t (length memory) words (cellCount (t .regions))
   pub verdict : tablesVerdict t ≡ L.Accepted
   pub checked : checkOf (t .regions) (t .nodes) (t .instructions) ≡ T.Accepted
+  pub conditions : conditionsFit (t .regions) (t .instructions) ≡ true
   pub zeroed : openTables t memory words .memory ≡ zeros (t .regions) ++ drop (cellWidth * cellCount (t .regions)) memory
 
 -- only an accepted program is opened
@@ -46,9 +51,17 @@ unrefused : {A : Type 0} (s : Outcome A) (rest : OpenLook) → unlessRefused s r
 unrefused (ok a) rest e = record { value = a; given = refl; rest-is = e }
 unrefused (refuse n) rest e = let z : _≡_ {A = ℕ} 0 1 = cc in absurd (omega arith)
 
-unfaulted : (v : Verdict) (rest : OpenLook) → unlessError v rest ≡ L.Accepted → v ≡ T.Accepted
-unfaulted T.Accepted rest e = refl
+unfaulted : (v : Verdict) (rest : OpenLook) → unlessError v rest ≡ L.Accepted → (v ≡ T.Accepted) × (rest ≡ L.Accepted)
+unfaulted T.Accepted rest e = (refl, e)
 unfaulted (T.Error x) rest e = let z : _≡_ {A = ℕ} 0 1 = cc in absurd (omega arith)
+
+-- behind 9, 20 and 21
+conditioned : (t : Tables) → programLook t ≡ ok tt → conditionsFit (t .regions) (t .instructions) ≡ true
+unfolding programLook
+conditioned t e =
+    let (o, e₁) = passed (noOther (t .instructions)) _ _ _ e in
+    let (l, e₂) = passed (labelsFit (t .instructions)) _ _ _ e₁ in
+    passed (conditionsFit (t .regions) (t .instructions)) _ _ _ e₂ .0
 
 pub accepts : (t : Tables) (memory : List ℕ) (words : ℕ) → openTables t memory words .answer ≡ Opened firstPosition → Accepts t memory words
 unfolding openTables withTail openVerdict tablesVerdict programVerdict openCells
@@ -57,11 +70,14 @@ accepts t memory words e =
     let verdict = opens (t .regions) (take w memory) (openVerdict t (length memory) words) e in
     let p = unrefused (preparedOf t (length memory) words) (tablesVerdict t) verdict in
     let q = unrefused (tablesLook t) (programVerdict t) (p .rest-is) in
+    let (checked, rest) = unfaulted (checkOf (t .regions) (t .nodes) (t .instructions)) (unlessRefused (programLook t) L.Accepted) (q .rest-is) in
+    let looked = unrefused (programLook t) L.Accepted rest in
     let given = p .given ∙ ap ok (session.prepared t (length memory) words (p .given) .count) in
     record {
       prepared = given;
       facts = session.prepared t (length memory) words given;
       verdict = p .rest-is;
-      checked = unfaulted (checkOf (t .regions) (t .nodes) (t .instructions)) (unlessRefused (programLook t) L.Accepted) (q .rest-is);
+      checked = checked;
+      conditions = conditioned t (looked .given);
       zeroed = ap (λ (v : OpenLook). openCells (t .regions) (take w memory) v .memory ++ drop w memory) verdict;
     }

@@ -1,6 +1,6 @@
 -- The sequence theorem. The crate's main law is `agrees`: from start cells of the declared kinds every list of calls on the lent buffers does what the replay machine does.
 -- `faithful` says it after an accepted open. Of the step they use the record `Sound` alone, which they are handed. No axioms.
-use Prim.Native.Nat.{ℕ, _+_, _*_, _≤_}
+use Prim.Native.Nat.{ℕ, _+_, _*_}
 use mathlib.Core.List.{List, [], _∷_, _++_}
 use mathlib.Core.Path.{_≡_, refl, sym, ap, ap₂, _∙_, subst}
 use native.Mathlib.Omega.{arith}
@@ -19,12 +19,13 @@ use Rattle.session_forward.specs.Forward.{Left}
 use Rattle.session_back.specs.Back.{Back}
 use Rattle.operands.specs.Typed.{Typed}
 use Rattle.soundness.specs.Sound.{Sound}
-use Rattle.sequence.specs.Calls.{Call, forward, back, Answer, ofStep, numberOf, positionOf, Session, opened, Called, called, after, next, answers, end}
-use Rattle.sequence.specs.Replay.{Machine, machineOf, History, State, fresh, cellsAfter, writesAfter, usedAfter, cellsAt, usedAt, positionAt, replayLook, replayed, stepAnswer, nextState, replayAnswer, replayNext, replayAnswers, replayEnd}
+use Rattle.session.specs.Session.{Session}
+use Rattle.sequence.specs.Calls.{Call, forward, back, Answer, ofStep, numberOf, positionOf, opened, Called, called, after, next, answers, end}
+use Rattle.sequence.specs.Replay.{Machine, machineOf, History, State, fresh, placeAfter, rowAfter, cellsAfter, writesAfter, usedAfter, cellsAt, usedAt, positionAt, replayLook, replayed, stepAnswer, nextState, replayAnswer, replayNext, replayAnswers, replayEnd}
 use Rattle.sequence.specs.Journal.{stacked, stepsAfter, journalAfter, journalAt, usedEntries}
 use Rattle.sequence.specs.Claim.{Ruled, Framed, Faithful}
 use Rattle.sequence.proofs.Opened.{Accepts}
-use Rattle.sequence.proofs.Reached.{length-journal, journal-parted, rows, Started, sessionAt, Within, typed-after, cells-taken}
+use Rattle.sequence.proofs.Reached.{length-journal, journal-parted, Started, sessionAt, InProgram, Within, typed-after, cells-taken}
 use Rattle.sequence.proofs.Forward.{forwarded, forward-leaves, forward-unanswered, forward-ruled, forward-kept}
 use Rattle.sequence.proofs.Back.{none-dropped, back-none, last-dropped, back-last, back-within}
 
@@ -47,7 +48,7 @@ module _ {M : Machine} {past : List ℕ} (started : Started M past) where
   follows-back (reply ∷ h) rest w =
       subst (Follows back (record { history = reply ∷ h }) rest) (sym (last-dropped started reply h))
       (record {
-        rest′ = log (cellsAfter M h) (writesAfter M h reply) ++ (closing (length (writesAfter M h reply)) ++ rest);
+        rest′ = log (cellsAfter M h) (writesAfter M h reply) ++ (closing (length (writesAfter M h reply)) (rowAfter M h) ++ rest);
         called-is = ap₂ (λ (b : Back) (j : List ℕ). leftBack j b) (back-last started reply h rest w) (journal-parted M reply h rest);
         within = back-within started reply h rest w;
       })
@@ -75,12 +76,12 @@ module _ {M : Machine} {past : List ℕ} (started : Started M past) where
       ap after (f .called-is)
       ∙ (λ i. record { memory = cellsAt M s′ ++ past; journal = journalAt M s′ ++ f .rest′; position = position-next s (replayed M c s) i })
 
-  framed-first : (c : Call) (cs : List Call) (s : State) (rest : List ℕ) → Follows c s rest (replayed M c s)
+  framed-first : (c : Call) (cs : List Call) (s : State) (rest : List ℕ) → InProgram M (s .history) → Follows c s rest (replayed M c s)
       → Framed (M .tables) cs (next (M .tables) c (sessionAt M past s rest)) → Framed (M .tables) (c ∷ cs) (sessionAt M past s rest)
   unfolding replayed
-  framed-first back cs s rest f more = more
-  framed-first (forward reply) cs s rest f more =
-      (λ call c l spared. ap (λ (a : Called). held (a .memory) c) (f .called-is) ∙ forward-kept started s reply call c l spared, more)
+  framed-first back cs s rest inside f more = more
+  framed-first (forward reply) cs s rest inside f more =
+      (λ call c l spared. ap (λ (a : Called). held (a .memory) c) (f .called-is) ∙ forward-kept started s reply inside call c l spared, more)
 
   -- ---- a list of calls, from any state of the machine: the main law
 
@@ -102,18 +103,18 @@ module _ {M : Machine} {past : List ℕ} (started : Started M past) where
         rest′ = a .rest′;
         end-is = ap (end (M .tables) cs) (reaches c s rest f) ∙ a .end-is;
         within = a .within;
-        all-framed = framed-first c cs s rest f (subst (Framed (M .tables) cs) (sym (reaches c s rest f)) (a .all-framed));
+        all-framed = framed-first c cs s rest (w .steps) f (subst (Framed (M .tables) cs) (sym (reaches c s rest f)) (a .all-framed));
       }
 
   -- ---- a number that is neither 0 nor 12 and that no forward's looks give is no answer of a list
 
   module _ (k : ℕ) (some : 0 ≡ k → ⊥) (last : nothingToTakeBack ≡ k → ⊥)
-      (never : (s : State) (reply : List ℕ) → length (s .history) ≤ rows M → replayLook M s reply ≡ refuse k → ⊥) where
+      (never : (s : State) (reply : List ℕ) → InProgram M (s .history) → replayLook M s reply ≡ refuse k → ⊥) where
     back-unanswered : (h : History) → numberOf (replayAnswer M back (record { history = h })) ≡ k → ⊥
     back-unanswered [] = rw (none-dropped started) last
     back-unanswered (reply ∷ h) = rw (last-dropped started reply h) some
 
-    unanswered : (c : Call) (s : State) → length (s .history) ≤ rows M → numberOf (replayAnswer M c s) ≡ k → ⊥
+    unanswered : (c : Call) (s : State) → InProgram M (s .history) → numberOf (replayAnswer M c s) ≡ k → ⊥
     unfolding replayed
     unanswered (forward reply) s l = forward-unanswered started k some s reply (never s reply l)
     unanswered back s l = back-unanswered (s .history)
@@ -148,12 +149,12 @@ module _ (t : Tables) (sound : Sound t) (memory journal : List ℕ) (a : Accepts
   }
 
   opened-is : opened t memory journal ≡ sessionAt machine past fresh journal
-  unfolding cellsAfter usedAfter stacked stepsAfter
+  unfolding placeAfter usedAfter stacked stepsAfter
   opened-is = λ i. record { memory = a .zeroed i; journal = journal; position = firstPosition }
 
   pub begins : Within machine fresh journal
   unfolding stacked stepsAfter
-  begins = record { steps = omega arith; size = refl }
+  begins = record { steps = tt; size = refl }
 
   module _ (calls : List Call) where
     abbrev pub state : State

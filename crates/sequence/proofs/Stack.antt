@@ -1,4 +1,4 @@
--- The journal of steps by their old values, and its last step read back: what back's looks find and what it restores, whatever the memory holds. Assumes nothing.
+-- The journal of steps by their old values and the rows that they left, and its last step read back: what back's looks find and what it restores, whatever the memory holds. Assumes nothing.
 use Prim.Native.Nat.{ℕ, _+_, _*_, _-_, _<_}
 use mathlib.Core.Bool.{true}
 use mathlib.Core.List.{List, [], _∷_, _++_, append-assoc}
@@ -7,72 +7,90 @@ use native.Mathlib.Omega.{arith}
 use lib.ListN.{length, length-append}
 use borrow.Author.Tests.{lt-ltb}
 use Rattle.tables.specs.Outcome.{ok, _>>=_, _>>_, need}
-use Rattle.journal.specs.declared.cells.Write.{Write}
+use Rattle.tables.specs.Rows.{instructionRows}
 use Rattle.journal.specs.declared.position.Position.{Position}
-use Rattle.journal.specs.Entries.{flatten, closing, changesAt, entriesAt}
+use Rattle.journal.specs.Entries.{flatten, closing, changesAt, rowLeftAt, entriesAt}
 use Rattle.journal.specs.Restore.{present, restored, undone}
-use Rattle.journal.proofs.EntriesLaws.{length-flatten, length-closing, entries-flatten, changes-closing}
+use Rattle.journal.proofs.EntriesLaws.{length-flatten, length-closing, entries-flatten, changes-closing, row-closing}
 use Rattle.session_back.specs.Back.{journalLook}
-use Rattle.sequence.specs.Journal.{Steps, stacked, usedBy}
+use Rattle.sequence.specs.Journal.{Step, Steps, stacked, usedBy}
 
 pub length-stacked : (steps : Steps) → length (stacked steps) ≡ 3 * usedBy steps
 unfolding stacked usedBy
 length-stacked [] = refl
-length-stacked (os ∷ steps) =
+length-stacked (s ∷ steps) =
+    let n : ℕ = length (s .olds) in
     omega (
       arith,
-      length-append (stacked steps) (flatten os ++ closing (length os)),
-      length-append (flatten os) (closing (length os)),
-      length-flatten os,
-      length-closing (length os),
+      length-append (stacked steps) (flatten (s .olds) ++ closing n (s .row)),
+      length-append (flatten (s .olds)) (closing n (s .row)),
+      length-flatten (s .olds),
+      length-closing n (s .row),
       length-stacked steps,
     )
 
--- the position of a session that has done so many steps, with the entries of `steps` in use
-abbrev pub placed : ℕ → Steps → Position
-placed done steps = record { done = done; used = usedBy steps }
+-- the position of a session at a row that has done so many steps, with the entries of `steps` in use
+abbrev pub placed : ℕ → ℕ → Steps → Position
+placed row done steps = record { row = row; done = done; used = usedBy steps }
 
-module _ (os : List Write) (steps : Steps) (rest : List ℕ) where
+module _ (s : Step) (steps : Steps) (rest : List ℕ) where
+  abbrev pub changes : ℕ
+  changes = length (s .olds)
+
   -- the last step's entries, parted from what stands before them
-  pub stacked-parted : stacked (os ∷ steps) ++ rest ≡ stacked steps ++ (flatten os ++ (closing (length os) ++ rest))
+  pub stacked-parted : stacked (s ∷ steps) ++ rest ≡ stacked steps ++ (flatten (s .olds) ++ (closing changes (s .row) ++ rest))
   unfolding stacked
   stacked-parted = simp append-assoc
 
-  pub used-more : usedBy (os ∷ steps) ≡ usedBy steps + (length os + 1)
+  pub used-more : usedBy (s ∷ steps) ≡ usedBy steps + (changes + 1)
   unfolding usedBy
   used-more = refl
 
-  -- the last closing entry has the last step's count
-  pub count-is : changesAt (stacked (os ∷ steps) ++ rest) (usedBy (os ∷ steps) - 1) ≡ length os
-  count-is =
-      let at : usedBy (os ∷ steps) - 1 ≡ usedBy steps + length os = omega (arith, used-more) in
-      ap₂ changesAt (stacked-parted ∙ sym (append-assoc (stacked steps) (flatten os) (closing (length os) ++ rest))) at
-      ∙ changes-closing (stacked steps ++ flatten os) rest (length os) (usedBy steps + length os)
-      (omega (arith, length-append (stacked steps) (flatten os), length-flatten os, length-stacked steps))
+  -- ---- the last closing entry
 
-  pub first-is : usedBy (os ∷ steps) - (length os + 1) ≡ usedBy steps
+  closing-parted : stacked (s ∷ steps) ++ rest ≡ (stacked steps ++ flatten (s .olds)) ++ (closing changes (s .row) ++ rest)
+  closing-parted = stacked-parted ∙ sym (append-assoc (stacked steps) (flatten (s .olds)) (closing changes (s .row) ++ rest))
+
+  before-closing : length (stacked steps ++ flatten (s .olds)) ≡ 3 * (usedBy steps + changes)
+  before-closing = omega (arith, length-append (stacked steps) (flatten (s .olds)), length-flatten (s .olds), length-stacked steps)
+
+  last-is : usedBy (s ∷ steps) - 1 ≡ usedBy steps + changes
+  last-is = omega (arith, used-more)
+
+  -- it has the last step's count
+  pub count-is : changesAt (stacked (s ∷ steps) ++ rest) (usedBy (s ∷ steps) - 1) ≡ changes
+  count-is = ap₂ changesAt closing-parted last-is ∙ changes-closing (stacked steps ++ flatten (s .olds)) rest changes (s .row) (usedBy steps + changes) before-closing
+
+  -- and the row that it left
+  pub row-is : rowLeftAt (stacked (s ∷ steps) ++ rest) (usedBy (s ∷ steps) - 1) ≡ s .row
+  row-is = ap₂ rowLeftAt closing-parted last-is ∙ row-closing (stacked steps ++ flatten (s .olds)) rest changes (s .row) (usedBy steps + changes) before-closing
+
+  -- ---- before it stand its old values
+
+  pub first-is : usedBy (s ∷ steps) - (changes + 1) ≡ usedBy steps
   first-is = omega (arith, used-more)
 
-  -- and before it stand its old values
-  pub entries-are : entriesAt (stacked (os ∷ steps) ++ rest) (usedBy (os ∷ steps) - (length os + 1)) (length os) ≡ os
+  pub entries-are : entriesAt (stacked (s ∷ steps) ++ rest) (usedBy (s ∷ steps) - (changes + 1)) changes ≡ s .olds
   entries-are =
-      ap₂ (λ (j : List ℕ) (e : ℕ). entriesAt j e (length os)) stacked-parted first-is
-      ∙ entries-flatten (stacked steps) (closing (length os) ++ rest) os (usedBy steps) (length-stacked steps)
+      ap₂ (λ (j : List ℕ) (e : ℕ). entriesAt j e changes) stacked-parted first-is
+      ∙ entries-flatten (stacked steps) (closing changes (s .row) ++ rest) (s .olds) (usedBy steps) (length-stacked steps)
 
-  -- 12 and 19 of the journal: none is met where the cells are there
-  pub journal-look : (cells done : ℕ) → 0 < done → present cells os ≡ true
-      → journalLook cells (stacked (os ∷ steps) ++ rest) (placed done (os ∷ steps)) ≡ ok (length os)
+  -- 12 and 19 of the journal: none is met where the cells are there and the row left is one
+  pub journal-look : (instructions : List ℕ) (cells row done : ℕ) → 0 < done → present cells (s .olds) ≡ true → s .row < instructionRows instructions
+      → journalLook instructions cells (stacked (s ∷ steps) ++ rest) (placed row done (s ∷ steps)) ≡ ok changes
   unfolding journalLook _>>=_ _>>_ need
-  journal-look cells done some there =
+  journal-look instructions cells row done some there left =
       rw (
         lt-ltb 0 done some,
-        lt-ltb 0 (usedBy (os ∷ steps)) (omega (arith, used-more)),
+        lt-ltb 0 (usedBy (s ∷ steps)) (omega (arith, used-more)),
         count-is,
-        lt-ltb (length os) (usedBy (os ∷ steps)) (omega (arith, used-more)),
+        lt-ltb changes (usedBy (s ∷ steps)) (omega (arith, used-more)),
         entries-are,
         there,
+        row-is,
+        lt-ltb (s .row) (instructionRows instructions) left,
       )
 
-  pub undone-is : (m : List ℕ) → undone (stacked (os ∷ steps) ++ rest) (usedBy (os ∷ steps) - (length os + 1)) (length os) m ≡ restored m os
+  pub undone-is : (m : List ℕ) → undone (stacked (s ∷ steps) ++ rest) (usedBy (s ∷ steps) - (changes + 1)) changes m ≡ restored m (s .olds)
   unfolding undone
   undone-is m = ap (restored m) entries-are

@@ -28,12 +28,12 @@ failing j = answerOf (verdictAt 0 j)
 abbrev step : Call
 step = forward []
 
--- its answers, with the position: instructions done, journal entries used
+-- its answers, with the position: steps not taken back, journal entries used. No row of these lines is a jump, so the row is the number of steps.
 abbrev moved : ℕ → ℕ → Answer
-moved done used = ofStep (Moved (record { done = done; used = used }))
+moved done used = ofStep (Moved (record { row = done; done = done; used = used }))
 
 abbrev refused : ℕ → ℕ → ℕ → Answer
-refused number done used = ofStep (Refused number (record { done = done; used = used }))
+refused number done used = ofStep (Refused number (record { row = done; done = done; used = used }))
 
 -- a[0], a[1], n[0] to n[2], o[0], r[0], r[1]: kind and word; n[0], o[0], r[0] and r[1] as given, 0 elsewhere
 abbrev cells : ℕ → ℕ → ℕ → ℕ → List ℕ

@@ -20,7 +20,8 @@ use Rattle.tables.specs.First.{first, every}
 use Rattle.tables.specs.Tables.{Tables, tablesOf}
 use Rattle.loader.specs.Shape.{wholeRows, wholeTables}
 use Rattle.word_rules.specs.Allowed.{regionAllowed, nodeAllowed, regionsAllowed, externsAllowed, parametersAllowed, nodesAllowed, argumentsAllowed}
-use Rattle.word_rules.specs.Instruction.{operatorsOf, formAllowed, sourceAllowed, operandsAllowed, instructionAllowed, instructionsAllowed}
+use Rattle.word_rules.specs.Instruction.{jumpOperatorsOf, operatorsOf, formAllowed, sourceAllowed, jumpOperandsAllowed, operandsAllowed, instructionAllowed, instructionsAllowed}
+use Rattle.labels.specs.Labels.{labelled, labelsDistinct, targetsPresent, labelsFit}
 use Rattle.tables.specs.Tree.{arityOf, treesFrom, inside, oneTree}
 use Rattle.tables.specs.Lookup.{lookupOf, lookupAmong, distinct}
 use Rattle.loader.specs.Load.{loadLook, allowedTables, distinctNames}
@@ -34,11 +35,13 @@ use Rattle.journal.specs.Cells.{cellWidth, put, applied}
 use Rattle.journal.specs.Entries.{entryWidth, flatten, olds, log, closing, entered, journaled, entriesAt}
 use Rattle.journal.specs.Restore.{restored, undone, present}
 use Rattle.operands.specs.Kinds.{regionAmong, regionOf, declaredKind, zerosFrom, zeros}
-use Rattle.operands.specs.Cells.{readOf, sourceOf, offsetOf}
+use Rattle.operands.specs.Cells.{readOf, sourceOf, readWord}
 use Rattle.operands.specs.Address.{addressOf, indexFits, indexedOf, namedOf, namesOf, writtenOf, addressesOf}
 use Rattle.operators.specs.Operators.{integerResult, arithmeticResult, logicResult}
 use Rattle.machine.specs.Families as families
 use Rattle.machine.specs.Outcome.{plainOutcome, outcomeOf, outcomeAt}
+use Rattle.machine.specs.Next.{nextRow}
+use Rattle.machine.specs.Condition.{conditionFits, conditionsFit}
 use Rattle.session.specs.Prepare.{tablesLook, buffersFit, preparedOf}
 use Rattle.session.specs.Position.{positionFits, placedLook, roomFor}
 use Rattle.session.specs.Leaves.{withTail}
@@ -46,7 +49,8 @@ use Rattle.session_open.specs.Open.{noOther, callLook, callsLook, programLook, 
 use Rattle.session_forward.specs.Forward.{stepLook, forwardLook, stepped, forwardTables}
 use Rattle.session_back.specs.Back.{journalLook, backLook, takenBack, backTables}
 use Rattle.session.specs.declared.answer.OpenAnswer.{OpenAnswer}
-use Rattle.sequence.specs.Calls.{Call, Answer, Session, opened, answers, end}
+use Rattle.session.specs.Session.{Session}
+use Rattle.sequence.specs.Calls.{Call, Answer, opened, answers, end}
 
 -- ---- rows
 
@@ -110,16 +114,16 @@ unfoldable pub run : List ℕ → List ℕ → ℕ → List Call → Run
 unfolding fitsKind widthOf lowBits signed wordOf integerIsNegative integerDivide integerQuotient shiftLeft shiftRightArithmetic shifted shlAt ashrAt
     realAboveEpsilon size ofBits lt caseOf
     _>>=_ _>>_ need first every loadLook wholeTables wholeRows allowedTables regionsAllowed regionAllowed externsAllowed parametersAllowed nodesAllowed
-    nodeAllowed argumentsAllowed instructionsAllowed instructionAllowed operatorsOf formAllowed sourceAllowed operandsAllowed oneTree inside treesFrom
+    nodeAllowed argumentsAllowed instructionsAllowed instructionAllowed jumpOperatorsOf operatorsOf formAllowed sourceAllowed jumpOperandsAllowed operandsAllowed oneTree inside treesFrom
     arityOf distinctNames distinct lookupOf lookupAmong cellsOf cellCount firstCell sumTo
     checkOf verdictOf judgementOf rowRule ruleOf sourceCode operandCode codeOf kindCode arithmeticRule sourceRule logicRule logicSource moveRule
     exchangeRule loadRule loadOffset storeRule storeSource frameRule treeVerdict nodeVerdict numberVerdict
     put applied flatten olds log closing entered journaled entriesAt restored undone present
     operandsOf namesFirst namesSecond indexesFirst indexesSecond zeros zerosFrom declaredKind regionOf regionAmong outcomeAt outcomeOf plainOutcome namesOf namedOf addressesOf writtenOf indexedOf indexFits addressOf
-    readOf sourceOf offsetOf families.familyOf families.putInto families.combinedOf families.arithmeticOf families.logicOf families.moveOf families.exchangeOf
+    readOf sourceOf readWord families.familyOf families.putInto families.combinedOf families.arithmeticOf families.logicOf families.moveOf families.exchangeOf
     families.loadOf arithmeticResult integerResult logicResult
-    openTables openCells openVerdict tablesVerdict programVerdict preparedOf tablesLook buffersFit programLook noOther callsLook callLook withTail
-    forwardTables stepped forwardLook placedLook stepLook roomFor positionFits backTables takenBack backLook journalLook answers end
+    openTables openCells openVerdict tablesVerdict programVerdict preparedOf tablesLook buffersFit programLook noOther labelsFit labelsDistinct targetsPresent labelled conditionsFit conditionFits callsLook callLook withTail
+    nextRow forwardTables stepped forwardLook placedLook stepLook roomFor positionFits backTables takenBack backLook journalLook answers end
 run nodes program entries calls =
     let t : Tables = tablesOf declarations [] [] nodes [] program in
     let memory : List ℕ = replicate (cellWidth * 8) 9 in

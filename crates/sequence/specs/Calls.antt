@@ -7,6 +7,7 @@ use Rattle.journal.specs.declared.position.Position.{Position}
 use Rattle.journal.specs.Position.{firstPosition}
 use Rattle.session.specs.Answer as session
 use Rattle.session.specs.Leaves.{Leaves, leaves}
+use Rattle.session.specs.Session.{Session}
 use Rattle.session.specs.declared.answer.StepAnswer.{StepAnswer}
 use Rattle.session_open.specs.Open.{openTables}
 use Rattle.session_forward.specs.Forward.{forwardTables}
@@ -28,11 +29,6 @@ numberOf (ofStep a) = session.stepNumber a
 -- 01: "Every answer gives the position."
 abbrev pub positionOf : Answer → Position
 positionOf (ofStep a) = session.positionOf a
-
-pub record Session : Type 0 where
-  pub memory : List ℕ
-  pub journal : List ℕ
-  pub position : Position
 
 -- what open leaves of a lent memory and journal
 abbrev pub opened : Tables → List ℕ → List ℕ → Session

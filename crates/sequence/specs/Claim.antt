@@ -11,7 +11,7 @@ use Rattle.tables.specs.Rows.{regionName, instructionAt}
 use Rattle.tables.specs.Cells.{cellCount}
 use Rattle.tables.specs.declared.rows.Instruction.{Instruction}
 use Rattle.access_sets.specs.Set.{has}
-use Rattle.journal.specs.Position.{rowOf, firstPosition}
+use Rattle.journal.specs.Position.{firstPosition}
 use Rattle.journal.specs.Cells.{cellWidth, held}
 use Rattle.journal.specs.Each.{Each}
 use Rattle.operands.specs.Typed.{Typed}
@@ -19,7 +19,8 @@ use Rattle.machine.specs.Outcome.{isCall}
 use Rattle.session.specs.declared.answer.OpenAnswer.the-variants.{Opened}
 use Rattle.session_open.specs.Open.{openTables}
 use Rattle.soundness.specs.WriteSet.{HasCell, writeSet}
-use Rattle.sequence.specs.Calls.{Call, forward, back, Answer, numberOf, Session, opened, next, answers, end}
+use Rattle.session.specs.Session.{Session}
+use Rattle.sequence.specs.Calls.{Call, forward, back, Answer, numberOf, opened, next, answers, end}
 use Rattle.sequence.specs.Replay.{Machine, machineOf, State, fresh, cellsAt, replayAnswers, replayEnd}
 use Rattle.sequence.specs.Journal.{journalAt, usedEntries}
 
@@ -41,7 +42,7 @@ Kept t x s s′ = isCall x ≡ true → (c : ℕ) → c < cellCount (t .regions)
 abbrev pub Framed : Tables → List Call → Session → Type 0
 Framed t [] s = Unit {0}
 Framed t (forward reply ∷ cs) s =
-    Kept t (instructionAt (t .instructions) (rowOf (s .position))) s (next t (forward reply) s) × Framed t cs (next t (forward reply) s)
+    Kept t (instructionAt (t .instructions) (s .position .row)) s (next t (forward reply) s) × Framed t cs (next t (forward reply) s)
 Framed t (back ∷ cs) s = Framed t cs (next t back s)
 
 -- ---- of a list of calls, on the session that open left of the lent memory and journal

@@ -1,32 +1,38 @@
 -- The used entries of a journal, as those of the steps not taken back.
--- 01: "The journal .. gets cell, old kind, old word per write (exchange 2 in either order, call one per reply row), then change count, 0, 0."
+-- 01: "The journal .. gets cell, old kind, old word per write (exchange 2 in either order, call one per reply row), then change count, 0, 0."; 02, P4: "A closing entry's second
+-- word is the row left".
 use mathlib.Core.List.{List, [], _∷_, _++_}
 use Prim.Native.Nat.{ℕ, _+_, _*_}
 use lib.ListN.{length, take}
 use Rattle.journal.specs.declared.cells.Write.{Write}
 use Rattle.journal.specs.Entries.{entryWidth, flatten, olds, closing}
-use Rattle.sequence.specs.Calls.{Session}
-use Rattle.sequence.specs.Replay.{Machine, History, State, cellsAfter, writesAfter}
+use Rattle.session.specs.Session.{Session}
+use Rattle.sequence.specs.Replay.{Machine, History, State, rowAfter, cellsAfter, writesAfter}
 
--- steps by their old values, the last step first; a step's values in the order of its writes
+-- a step by its old values, in the order of its writes, and the row that it left
+pub record Step : Type 0 where
+  pub olds : List Write
+  pub row : ℕ
+
+-- the last step first
 abbrev pub Steps : Type 0
-Steps = List (List Write)
+Steps = List Step
 
 -- the words of their entries: each step's old values, then its closing entry, the first step in front
 unfoldable pub stacked : Steps → List ℕ
 stacked [] = []
-stacked (os ∷ steps) = stacked steps ++ (flatten os ++ closing (length os))
+stacked (s ∷ steps) = stacked steps ++ (flatten (s .olds) ++ closing (length (s .olds)) (s .row))
 
 -- how many entries they are
 unfoldable pub usedBy : Steps → ℕ
 usedBy [] = 0
-usedBy (os ∷ steps) = usedBy steps + (length os + 1)
+usedBy (s ∷ steps) = usedBy steps + (length (s .olds) + 1)
 
 module _ (M : Machine) where
   -- the steps of the plain machine's history
   unfoldable pub stepsAfter : History → Steps
   stepsAfter [] = []
-  stepsAfter (reply ∷ h) = olds (cellsAfter M h) (writesAfter M h reply) ∷ stepsAfter h
+  stepsAfter (reply ∷ h) = record { olds = olds (cellsAfter M h) (writesAfter M h reply); row = rowAfter M h } ∷ stepsAfter h
 
   abbrev pub journalAfter : History → List ℕ
   journalAfter h = stacked (stepsAfter h)

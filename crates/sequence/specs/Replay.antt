@@ -12,6 +12,7 @@ use Rattle.journal.specs.declared.position.Position.{Position}
 use Rattle.journal.specs.Cells.{applied}
 use Rattle.operands.specs.Kinds.{zeros}
 use Rattle.machine.specs.Outcome.{outcomeAt}
+use Rattle.machine.specs.Next.{nextRow}
 use Rattle.session.specs.Prepare.{entriesOf, preparedOf}
 use Rattle.session.specs.declared.answer.StepAnswer.{StepAnswer}
 use Rattle.session.specs.declared.answer.StepAnswer.the-variants.{Moved, Refused}
@@ -44,6 +45,11 @@ pub record State : Type 0 where
 abbrev pub fresh : State
 fresh = record { history = [] }
 
+-- where a history has come to
+pub record Place : Type 0 where
+  pub cells : List ℕ
+  pub row : ℕ
+
 -- a step's writes. A reply joins the history only where its step is not refused, so the second line is never reached.
 abbrev pub made : Outcome (List Write) → List Write
 made (ok ws) = ws
@@ -62,15 +68,24 @@ nextState s (refuse number) = s
 module _ (M : Machine) where
   -- ---- after the steps of a history
 
-  -- the row that it comes to: each step leads to the next row
-  abbrev pub rowAfter : History → ℕ
-  rowAfter h = length h
+  -- "Its cells: zero with declared kinds, then row 0 done as above with the first reply, row 1 with the second, and so on."; 02, P4: "the current row; in the machine's replay
+  -- it is 0, then wherever each step leads".
+  -- "Done as above" is `outcomeAt`, which forward takes too, as it takes `nextRow`: an error in these definitions is one that the theorem cannot see. Reading, cases and the
+  -- comparison look for it.
+  unfoldable pub placeAfter : History → Place
+  placeAfter [] = record { cells = M .startCells; row = 0 }
+  placeAfter (reply ∷ h) =
+      let p = placeAfter h in
+      record {
+        cells = applied (p .cells) (made (outcomeAt (M .tables) (p .cells) (p .row) reply));
+        row = nextRow (M .tables .regions) (M .tables .instructions) (p .cells) (p .row);
+      }
 
-  -- "Its cells: zero with declared kinds, then row 0 done as above with the first reply, row 1 with the second, and so on."
-  -- "Done as above" is `outcomeAt`, which forward takes too: an error in that definition is one that the theorem cannot see. Reading, cases and the comparison look for it.
-  unfoldable pub cellsAfter : History → List ℕ
-  cellsAfter [] = M .startCells
-  cellsAfter (reply ∷ h) = applied (cellsAfter h) (made (outcomeAt (M .tables) (cellsAfter h) (rowAfter h) reply))
+  abbrev pub cellsAfter : History → List ℕ
+  cellsAfter h = placeAfter h .cells
+
+  abbrev pub rowAfter : History → ℕ
+  rowAfter h = placeAfter h .row
 
   -- the writes of the step that a reply adds to a history
   abbrev pub writesAfter : History → List ℕ → List Write
@@ -92,9 +107,9 @@ module _ (M : Machine) where
   abbrev pub usedAt : State → ℕ
   usedAt s = usedAfter (s .history)
 
-  -- "Its position: the history's length, and journal changes plus 1 added up over its steps."
+  -- "Its position: the history's length, and journal changes plus 1 added up over its steps."; 02, P4: it "gain[s] the current row"
   abbrev pub positionAt : State → Position
-  positionAt s = record { done = length (s .history); used = usedAt s }
+  positionAt s = record { row = rowAt s; done = length (s .history); used = usedAt s }
 
   -- ---- the calls
 
@@ -102,7 +117,7 @@ module _ (M : Machine) where
   abbrev pub looksFirst : Outcome ℕ
   looksFirst = preparedOf (M .tables) (M .memoryWords) (M .journalWords)
 
-  -- "A forward takes the next row and the looks below on these cells": after those, 11, the row's, and "13 journal full, exactly when changes plus 1 exceed entries left".
+  -- "A forward takes the next row and the looks below on these cells", by 02, P4, "that row", the current one: after those, 11, the row's, and "13 journal full, exactly when changes plus 1 exceed entries left".
   unfoldable pub replayLook : State → List ℕ → Outcome (List Write)
   replayLook s reply = do
     looksFirst

@@ -10,12 +10,11 @@ use Rattle.tables.specs.Tables.{Tables}
 use Rattle.tables.specs.Rows.{instructionRows}
 use Rattle.journal.specs.declared.cells.Write.{Write}
 use Rattle.journal.specs.declared.position.Position.{Position}
-use Rattle.journal.specs.Position.{rowOf}
 use Rattle.session.specs.Prepare.{entriesOf, preparedOf}
 
--- "19 position past its tables", of the instructions and so many entries
+-- "19 position past its tables", of the instructions and so many entries; 02, P4: "more steps than entries is 19". The end is no row, and a position all the same.
 unfoldable pub positionFits : List ℕ → ℕ → Position → Bool
-positionFits instructions entries p = leb (rowOf p) (instructionRows instructions) && leb (p .used) entries
+positionFits instructions entries p = leb (p .row) (instructionRows instructions) && (leb (p .done) (p .used) && leb (p .used) entries)
 
 -- "1, 2, 3, 10, 4, 19": the number of cells. memory and journal are lengths in words.
 unfoldable pub placedLook : Tables → ℕ → ℕ → Position → Outcome ℕ

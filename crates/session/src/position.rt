@@ -10,7 +10,7 @@ pub fn position_fits(instructions: &[u64], entries: usize, p: Position) -> bool
     ensures { λ r. ⌜ r ≡ positionFits (now (instructions .entry)) entries p ⌝ }
 {
     let rows = instructions.len() / INSTRUCTION_WIDTH;
-    (p.row() <= rows) & (p.used <= entries)
+    (p.row <= rows) & ((p.done <= p.used) & (p.used <= entries))
 }
 
 // Whether so many changes and the closing entry fit into the entries left.

@@ -10,6 +10,7 @@ use lib.Dec.{ltb}
 use borrow.Author.Tests.{ltb-true}
 use Rattle.tables.specs.Outcome.{Outcome, ok, refuse, _>>=_}
 use Rattle.tables.specs.Tables.{Tables}
+use Rattle.tables.specs.Rows.{instructionRows}
 use Rattle.tables.specs.Cells.{cellCount}
 use Rattle.tables.proofs.Passed.{passed}
 use Rattle.journal.specs.declared.position.Position.{Position}
@@ -22,9 +23,9 @@ use Rattle.session.specs.Position.{positionFits}
 use Rattle.session.specs.declared.answer.StepAnswer.{StepAnswer}
 use Rattle.session.specs.declared.answer.StepAnswer.the-variants.{Moved, Refused}
 use Rattle.session.proofs.Prepared.{prepared}
-use Rattle.session.proofs.PositionLaws.{fits-used, placed-then}
+use Rattle.session.proofs.PositionLaws.{fits, placed-then}
 use Rattle.session.proofs.LeavesLaws.{tail-kept, all-kept}
-use Rattle.session_back.specs.Back.{lastChanges, firstEntry, journalLook, backLook, backed, takenBack, backTables}
+use Rattle.session_back.specs.Back.{lastChanges, lastRow, firstEntry, journalLook, backLook, backed, takenBack, backTables}
 use Rattle.session_back.specs.TakeBack.{takeBackLook}
 
 -- a step with so many changes that can be taken back
@@ -43,19 +44,20 @@ takes-back instructions cells journal p {changes} e =
     let (u, e₃) = passed (ltb 0 (p .used)) _ _ _ e₂ in
     let (b, e₄) = passed (ltb n (p .used)) _ _ _ e₃ in
     let (r, e₅) = passed (present cells (entriesAt journal (firstEntry p n) n)) _ _ _ e₄ in
+    let (l, e₆) = passed (ltb (lastRow journal p) (instructionRows instructions)) _ _ _ e₅ in
     let q : n ≡ changes = cc in
     record {
       some = ltb-true 0 (p .done) d;
-      used = fits-used instructions (entriesOf (length journal)) p f;
+      used = fits instructions (entriesOf (length journal)) p f .used;
       before = rw q at (ltb-true n (p .used) b);
       readable = rw q at r;
     }
 
 -- what is left of the cells
-pub took-back : (cells journal : List ℕ) (p : Position) {o : Outcome ℕ} {changes : ℕ} {q : Position} {cells′ : List ℕ} → o ≡ ok changes
-    → q ≡ retreated p changes → cells′ ≡ undone journal (firstEntry p changes) changes cells → backed (Moved q) cells′ ≡ takenBack cells journal p o
+pub took-back : (cells journal : List ℕ) (p : Position) {o : Outcome ℕ} {changes row : ℕ} {q : Position} {cells′ : List ℕ} → o ≡ ok changes
+    → row ≡ lastRow journal p → q ≡ retreated p row changes → cells′ ≡ undone journal (firstEntry p changes) changes cells → backed (Moved q) cells′ ≡ takenBack cells journal p o
 unfolding takenBack
-took-back cells journal p e eq ec = rw (e, eq, ec)
+took-back cells journal p e er eq ec = rw (e, eq, er, ec)
 
 -- ---- in memory
 
@@ -63,7 +65,7 @@ module _ (t : Tables) (memory journal : List ℕ) (p : Position) where
   -- the looks behind 4, as `take_back` makes them
   pub back-look : backLook t (length memory) journal p ≡ (preparedOf t (length memory) (length journal) >>= (λ n. takeBackLook (t .instructions) n journal p))
   unfolding backLook takeBackLook
-  back-look = placed-then t (length memory) (length journal) p (λ n. journalLook n journal p)
+  back-look = placed-then t (length memory) (length journal) p (λ n. journalLook (t .instructions) n journal p)
 
   -- 1, 2, 3, 10 or 4
   pub back-unprepared : {number : ℕ} → preparedOf t (length memory) (length journal) ≡ refuse number → backed (Refused number p) memory ≡ backTables t memory journal p

@@ -15,7 +15,7 @@ use Rattle.session_back.specs.declared.take_back.TakeBack.the-variants.{
 unfoldable pub takeBackLook : List ℕ → ℕ → List ℕ → Position → Outcome ℕ
 takeBackLook instructions cells journal p = do
   need (positionFits instructions (entriesOf (length journal)) p) foreignPosition
-  journalLook cells journal p
+  journalLook instructions cells journal p
 
 -- the change count, or the refusal's number
 abbrev pub takeBackOutcome : TakeBack → Outcome ℕ

@@ -8,6 +8,7 @@ ghost use Rattle.session_back.specs.TakeBack.{takeBackLook, takeBackOutc
 use journal::cells::CELL_WIDTH;
 use journal::entries::ENTRY_WIDTH;
 use journal::entries::changes_at;
+use journal::entries::row_left_at;
 use journal::position::Position;
 use journal::restore::readable;
 use journal::restore::undo;
@@ -15,6 +16,7 @@ use session::answer::StepAnswer;
 use session::position::position_fits;
 use tables::refusal::FOREIGN_POSITION;
 use tables::refusal::NOTHING_TO_TAKE_BACK;
+use tables::rows::INSTRUCTION_WIDTH;
 
 // The change count of the last step, or a refusal by its number.
 pub enum TakeBack {
@@ -43,6 +45,9 @@ fn look_back(instructions: &[u64], cells: usize, journal: &[u64], p: Position) -
     if !readable(journal, used - (changes + 1), changes, cells) {
         return TakeBack::Refused(FOREIGN_POSITION);
     }
+    if instructions.len() / INSTRUCTION_WIDTH <= row_left_at(journal, used - 1) {
+        return TakeBack::Refused(FOREIGN_POSITION);
+    }
     TakeBack::Changes(changes)
 }
 
@@ -60,7 +65,8 @@ pub fn take_back(
         TakeBack::Refused(number) => StepAnswer::Refused(number, p),
         TakeBack::Changes(changes) => {
             undo(cells, journal, used - (changes + 1), changes);
-            StepAnswer::Moved(p.retreat(changes))
+            let row = row_left_at(journal, used - 1);
+            StepAnswer::Moved(p.retreat(row, changes))
         }
     }
 }

@@ -18,10 +18,11 @@ use Rattle.tables.proofs.Passed.{both, passed}
 use Rattle.journal.specs.declared.cells.Write.{Write}
 use Rattle.journal.specs.Each.{Each, none, also}
 use Rattle.journal.specs.declared.position.Position.{Position}
-use Rattle.journal.specs.Position.{rowOf, advanced}
+use Rattle.journal.specs.Position.{advanced}
 use Rattle.journal.specs.Cells.{cellWidth, applied}
 use Rattle.journal.specs.Entries.{entryWidth, journaled}
 use Rattle.machine.specs.Outcome.{outcomeOf, outcomeAt}
+use Rattle.machine.specs.Next.{nextRow}
 use Rattle.operands.specs.Reach.{There, Layout}
 use Rattle.operands.proofs.Reaches.{in-cells}
 use Rattle.machine.proofs.WritesLaws.{Within}
@@ -31,7 +32,7 @@ use Rattle.session.specs.Position.{positionFits, roomFor}
 use Rattle.session.specs.declared.answer.StepAnswer.{StepAnswer}
 use Rattle.session.specs.declared.answer.StepAnswer.the-variants.{Moved, Refused}
 use Rattle.session.proofs.Prepared.{prepared}
-use Rattle.session.proofs.PositionLaws.{fits-used, placed-then}
+use Rattle.session.proofs.PositionLaws.{fits, placed-then}
 use Rattle.session.proofs.LeavesLaws.{tail-kept, all-kept}
 use Rattle.session_forward.specs.Forward.{stepLook, forwardLook, left, stepped, forwardTables}
 use Rattle.session_forward.specs.Step.{rowLook, currentRow, rowLeaves, Steppable, RowReady}
@@ -41,11 +42,11 @@ use Rattle.session_forward.specs.Step.{rowLook, currentRow, rowLeaves, S
 module _ (t : Tables) (cells : List ℕ) (entries : ℕ) (p : Position) (reply : List ℕ) where
   row-look : rowLook t cells entries p reply ≡ (currentRow (t .instructions) entries p >>= (λ x. outcomeOf t cells x reply >>= roomFor entries p))
   unfolding rowLook stepLook currentRow outcomeAt _>>=_ _>>_ need
-  row-look = at (positionFits (t .instructions) entries p) (ltb (rowOf p) (instructionRows (t .instructions)))
+  row-look = at (positionFits (t .instructions) entries p) (ltb (p .row) (instructionRows (t .instructions)))
     where
       at : (a b : Bool)
-          → (need a 19 >> (need b 11 >> (outcomeOf t cells (instructionAt (t .instructions) (rowOf p)) reply >>= roomFor entries p)))
-          ≡ ((need a 19 >> (need b 11 >> ok (instructionAt (t .instructions) (rowOf p)))) >>= (λ x. outcomeOf t cells x reply >>= roomFor entries p))
+          → (need a 19 >> (need b 11 >> (outcomeOf t cells (instructionAt (t .instructions) (p .row)) reply >>= roomFor entries p)))
+          ≡ ((need a 19 >> (need b 11 >> ok (instructionAt (t .instructions) (p .row)))) >>= (λ x. outcomeOf t cells x reply >>= roomFor entries p))
       at true true = refl
       at true false = refl
       at false b = refl
@@ -60,18 +61,21 @@ module _ (t : Tables) (cells : List ℕ) (entries : ℕ) (p : Position) (reply :
 
 -- what 19 and 11 have seen
 pub record Current (instructions : List ℕ) (entries : ℕ) (p : Position) (x : Instruction) : Type 0 where
-  pub there : rowOf p < instructionRows instructions
+  pub there : p .row < instructionRows instructions
+  pub steps : p .done ≤ p .used
   pub used : p .used ≤ entries
-  pub is : x ≡ instructionAt instructions (rowOf p)
+  pub is : x ≡ instructionAt instructions (p .row)
 
 pub current : (instructions : List ℕ) (entries : ℕ) (p : Position) {x : Instruction} → currentRow instructions entries p ≡ ok x → Current instructions entries p x
 unfolding currentRow
 current instructions entries p {x} e =
     let (f, e₁) = passed (positionFits instructions entries p) _ _ _ e in
-    let (l, e₂) = passed (ltb (rowOf p) (instructionRows instructions)) _ _ _ e₁ in
+    let (l, e₂) = passed (ltb (p .row) (instructionRows instructions)) _ _ _ e₁ in
+    let within = fits instructions entries p f in
     record {
-      there = ltb-true (rowOf p) (instructionRows instructions) l;
-      used = fits-used instructions entries p f;
+      there = ltb-true (p .row) (instructionRows instructions) l;
+      steps = within .steps;
+      used = within .used;
       is = cc;
     }
 
@@ -97,11 +101,12 @@ module _ {regions externs parameters arguments instructions cells : List ℕ} {j
   here : Current instructions (entriesOf journal) p x
   here = current instructions (entriesOf journal) p e
 
-  pub row-ready : RowReady regions externs parameters arguments x cells journal p
+  pub row-ready : RowReady regions externs parameters arguments instructions x cells journal p
   row-ready = record {
-    opened = record { layout = s .layout; form = rw (here .is) (s .form (rowOf p) (here .there)) };
-    call = λ f. rw (here .is) (s .call (rowOf p) (here .there) (rw (here .is) at f));
-    placed = record { done = omega (arith, s .rows, here .there); used = here .used; short = s .short };
+    there = here .there;
+    opened = record { layout = s .layout; form = rw (here .is) (s .form (p .row) (here .there)) };
+    call = λ f. rw (here .is) (s .call (p .row) (here .there) (rw (here .is) at f));
+    placed = record { steps = here .steps; used = here .used; short = s .short };
   }
 
 -- the cells of a plain row's writes are there
@@ -117,20 +122,24 @@ two-there l (also h (also k none)) = (in-cells l h, in-cells l k)
 pub room-words : (journal n : ℕ) (p : Position) → leb (n + 1) (entriesOf journal - p .used) ≡ true → entryWidth * (p .used + (n + 1)) ≤ journal
 room-words journal n p e = omega (arith, leb-true (n + 1) (entriesOf journal - p .used) e)
 
-module _ (cells journal : List ℕ) (p : Position) (ws : List Write) (n : ℕ) (e : length ws ≡ n) where
-  pub full : leb (n + 1) (entriesOf (length journal) - p .used) ≡ false → left (Refused 13 p) cells journal ≡ rowLeaves cells journal p (ok ws)
+module _ (cells journal : List ℕ) (p : Position) (next : ℕ) (ws : List Write) (n : ℕ) (e : length ws ≡ n) where
+  pub full : leb (n + 1) (entriesOf (length journal) - p .used) ≡ false → left (Refused 13 p) cells journal ≡ rowLeaves cells journal p next (ok ws)
   unfolding rowLeaves roomFor stepped _>>=_ _>>_ need
   full h = rw (e, h)
 
   pub roomy : {q : Position} {cells′ journal′ : List ℕ} → leb (n + 1) (entriesOf (length journal) - p .used) ≡ true
-      → q ≡ advanced p n → cells′ ≡ applied cells ws → journal′ ≡ journaled journal (p .used) cells ws
-      → left (Moved q) cells′ journal′ ≡ rowLeaves cells journal p (ok ws)
+      → q ≡ advanced p next n → cells′ ≡ applied cells ws → journal′ ≡ journaled journal (p .used) (p .row) cells ws
+      → left (Moved q) cells′ journal′ ≡ rowLeaves cells journal p next (ok ws)
   unfolding rowLeaves roomFor stepped _>>=_ _>>_ need
   roomy h eq ec ej = rw (rw (← e) at h, eq, ← e, ec, ej)
 
 -- ---- in memory
 
 module _ (t : Tables) (memory journal : List ℕ) (p : Position) (reply : List ℕ) where
+  -- where the row leads, by the cells
+  abbrev leads : List ℕ → ℕ
+  leads cells = nextRow (t .regions) (t .instructions) cells (p .row)
+
   -- the looks behind 4, as `step_row` makes them
   pub forward-look : forwardLook t memory (length journal) p reply
       ≡ (preparedOf t (length memory) (length journal) >>= (λ n. rowLook t (take (cellWidth * n) memory) (entriesOf (length journal)) p reply))
@@ -141,13 +150,13 @@ module _ (t : Tables) (memory journal : List ℕ) (p : Position) (reply : List �
   pub forward-unprepared : {number : ℕ} → preparedOf t (length memory) (length journal) ≡ refuse number
       → left (Refused number p) memory journal ≡ forwardTables t memory journal p reply
   unfolding forwardTables stepped _>>=_
-  forward-unprepared {number} e = rw (forward-look, e) (all-kept (cellWidth * cellCount (t .regions)) memory (λ cells. stepped cells journal p (refuse number)) refl)
+  forward-unprepared {number} e = rw (forward-look, e) (all-kept (cellWidth * cellCount (t .regions)) memory (λ cells. stepped cells journal p (leads cells) (refuse number)) refl)
 
   -- behind them, with n cells
   pub forward-on : {n : ℕ} → preparedOf t (length memory) (length journal) ≡ ok n → {a : StepAnswer} {cells journal′ : List ℕ}
-      → left a cells journal′ ≡ stepped (take (cellWidth * n) memory) journal p (rowLook t (take (cellWidth * n) memory) (entriesOf (length journal)) p reply)
+      → left a cells journal′ ≡ stepped (take (cellWidth * n) memory) journal p (leads (take (cellWidth * n) memory)) (rowLook t (take (cellWidth * n) memory) (entriesOf (length journal)) p reply)
       → left a (cells ++ drop (cellWidth * n) memory) journal′ ≡ forwardTables t memory journal p reply
   unfolding forwardTables _>>=_
   forward-on {n} e h =
       rw (forward-look, e, ← prepared t (length memory) (length journal) e .count)
-      (tail-kept (cellWidth * n) memory (λ cells. stepped cells journal p (rowLook t (take (cellWidth * n) memory) (entriesOf (length journal)) p reply)) h)
+      (tail-kept (cellWidth * n) memory (λ cells. stepped cells journal p (leads cells) (rowLook t (take (cellWidth * n) memory) (entriesOf (length journal)) p reply)) h)

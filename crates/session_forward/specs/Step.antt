@@ -16,7 +16,6 @@ use Rattle.extern_call.specs.Call.{CallRanges}
 use Rattle.extern_call.specs.declared.call.ExternCall.{ExternCall}
 use Rattle.journal.specs.declared.cells.Write.{Write}
 use Rattle.journal.specs.declared.position.Position.{Position}
-use Rattle.journal.specs.Position.{rowOf}
 use Rattle.journal.specs.Entries.{entryLimit}
 use Rattle.call_reply.specs.Call.{replyLimit, replyRows}
 use Rattle.operands.specs.Reach.{Layout}
@@ -25,8 +24,8 @@ use Rattle.machine.specs.Reach.{Opened}
 use Rattle.session.specs.Prepare.{entriesOf}
 use Rattle.session.specs.Position.{positionFits, roomFor}
 use Rattle.session_forward.specs.Forward.{stepLook, Left, stepped}
-use Rattle.session_forward.specs.declared.step.NextRow.{NextRow}
-use Rattle.session_forward.specs.declared.step.NextRow.the-variants.{At, Refused}
+use Rattle.session_forward.specs.declared.step.RowHere.{RowHere}
+use Rattle.session_forward.specs.declared.step.RowHere.the-variants.{At, Refused}
 
 -- from 19 on
 unfoldable pub rowLook : Tables → List ℕ → ℕ → Position → List ℕ → Outcome (List Write)
@@ -38,23 +37,23 @@ rowLook t cells entries p reply = do
 unfoldable pub currentRow : List ℕ → ℕ → Position → Outcome Instruction
 currentRow instructions entries p = do
   need (positionFits instructions entries p) foreignPosition
-  need (ltb (rowOf p) (instructionRows instructions)) atEnd
-  ok (instructionAt instructions (rowOf p))
+  need (ltb (p .row) (instructionRows instructions)) atEnd
+  ok (instructionAt instructions (p .row))
 
--- the answer `NextRow` of the code
-abbrev pub nextOutcome : NextRow → Outcome Instruction
-nextOutcome (At x) = ok x
-nextOutcome (Refused number) = refuse number
+-- the answer `RowHere` of the code
+abbrev pub hereOutcome : RowHere → Outcome Instruction
+hereOutcome (At x) = ok x
+hereOutcome (Refused number) = refuse number
 
 -- "13" after what the row does, then what is left
-unfoldable pub rowLeaves : List ℕ → List ℕ → Position → Outcome (List Write) → Left
-rowLeaves cells journal p outcome = stepped cells journal p (outcome >>= roomFor (entriesOf (length journal)) p)
+unfoldable pub rowLeaves : List ℕ → List ℕ → Position → ℕ → Outcome (List Write) → Left
+rowLeaves cells journal p next outcome = stepped cells journal p next (outcome >>= roomFor (entriesOf (length journal)) p)
 
 -- ---- what the functions ask for, index safety alone
 
 -- a position that 19 and 11 let pass, in a journal of so many words
 pub record Placed (journal : ℕ) (p : Position) : Type 0 where
-  pub done : p .done < instructionLimit
+  pub steps : p .done ≤ p .used
   pub used : p .used ≤ entriesOf journal
   pub short : entriesOf journal ≤ entryLimit
 
@@ -69,7 +68,8 @@ pub record Steppable (regions externs parameters arguments instructions cells : 
   pub short : entriesOf journal ≤ entryLimit
 
 -- the row that 19 and 11 let pass
-pub record RowReady (regions externs parameters arguments : List ℕ) (x : Instruction) (cells : List ℕ) (journal : ℕ) (p : Position) : Type 0 where
+pub record RowReady (regions externs parameters arguments instructions : List ℕ) (x : Instruction) (cells : List ℕ) (journal : ℕ) (p : Position) : Type 0 where
+  pub there : p .row < instructionRows instructions
   pub opened : Opened regions cells x
   pub call : x .family ≡ family.call → CallRanges externs parameters arguments x
   pub placed : Placed journal p

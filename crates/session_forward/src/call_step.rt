@@ -55,11 +55,12 @@ fn write_reply(
     cells: &mut [u64],
     journal: &mut [u64],
     used: usize,
+    row: usize,
     reply: &[u64],
 )
     requires { ⌜ (Replying (now regions) (now parameters) (now arguments) call (now cells) (now reply)) × (entryWidth * (used + (replyRows (now reply) + 1)) ≤ length (now journal)) ⌝ }
     ensures { λ r. ⌜ now (cells .exit) ≡ applied (now (cells .entry)) (replyWrites (now (regions .entry)) (now (parameters .entry)) (now (arguments .entry)) call (now (reply .entry))) ⌝ }
-    ensures { λ r. ⌜ now (journal .exit) ≡ journaled (now (journal .entry)) used (now (cells .entry)) (replyWrites (now (regions .entry)) (now (parameters .entry)) (now (arguments .entry)) call (now (reply .entry))) ⌝ }
+    ensures { λ r. ⌜ now (journal .exit) ≡ journaled (now (journal .entry)) used row (now (cells .entry)) (replyWrites (now (regions .entry)) (now (parameters .entry)) (now (arguments .entry)) call (now (reply .entry))) ⌝ }
 {
     let rows = reply.len() / REPLY_WIDTH;
     let mut k = 0;
@@ -77,7 +78,7 @@ fn write_reply(
         );
         k += 1;
     }
-    close(journal, used + rows, rows);
+    close(journal, used + rows, rows, row);
 }
 
 // The writes of a judged reply, where the journal has room for them.
@@ -89,12 +90,14 @@ fn reply_step(
     cells: &mut [u64],
     journal: &mut [u64],
     p: Position,
+    next: usize,
     reply: &[u64],
 ) -> StepAnswer
     requires { ⌜ (Replying (now regions) (now parameters) (now arguments) call (now cells) (now reply)) × (Placed (length (now journal)) p) ⌝ }
-    ensures { λ r. ⌜ left r (now (cells .exit)) (now (journal .exit)) ≡ rowLeaves (now (cells .entry)) (now (journal .entry)) p (ok (replyWrites (now (regions .entry)) (now (parameters .entry)) (now (arguments .entry)) call (now (reply .entry)))) ⌝ }
+    ensures { λ r. ⌜ left r (now (cells .exit)) (now (journal .exit)) ≡ rowLeaves (now (cells .entry)) (now (journal .entry)) p next (ok (replyWrites (now (regions .entry)) (now (parameters .entry)) (now (arguments .entry)) call (now (reply .entry)))) ⌝ }
 {
     let used = p.used;
+    let row = p.row;
     let rows = reply.len() / REPLY_WIDTH;
     if !has_room(journal.len() / ENTRY_WIDTH, p, rows) {
         return StepAnswer::Refused(JOURNAL_FULL, p);
@@ -107,11 +110,13 @@ fn reply_step(
         cells,
         journal,
         used,
+        row,
         reply,
     );
-    StepAnswer::Moved(p.advance(rows))
+    StepAnswer::Moved(p.advance(next, rows))
 }
 
+// A step that leads to row `next`.
 pub fn call_step(
     regions: &[u64],
     externs: &[u64],
@@ -120,11 +125,12 @@ pub fn call_step(
     cells: &mut [u64],
     journal: &mut [u64],
     p: Position,
+    next: usize,
     x: Instruction,
     reply: &[u64],
 ) -> StepAnswer
     requires { ⌜ (Layout (now regions) (now cells)) × (CallRanges (now externs) (now parameters) (now arguments) x) × (Placed (length (now journal)) p) ⌝ }
-    ensures { λ r. ⌜ left r (now (cells .exit)) (now (journal .exit)) ≡ rowLeaves (now (cells .entry)) (now (journal .entry)) p (callOutcome (now (regions .entry)) (now (externs .entry)) (now (parameters .entry)) (now (arguments .entry)) x (now (reply .entry))) ⌝ }
+    ensures { λ r. ⌜ left r (now (cells .exit)) (now (journal .exit)) ≡ rowLeaves (now (cells .entry)) (now (journal .entry)) p next (callOutcome (now (regions .entry)) (now (externs .entry)) (now (parameters .entry)) (now (arguments .entry)) x (now (reply .entry))) ⌝ }
 {
     let judged = judge_call(regions, externs, parameters, arguments, x, reply);
     match judged {
@@ -137,6 +143,7 @@ pub fn call_step(
             cells,
             journal,
             p,
+            next,
             reply,
         ),
     }

@@ -23,59 +23,77 @@ use tables::refusal::JOURNAL_FULL;
 use tables::rows::Instruction;
 
 // A step that writes nothing; the cells stay, whatever they are.
-fn step_none(journal: &mut [u64], p: Position) -> StepAnswer
+fn step_none(journal: &mut [u64], p: Position, next: usize) -> StepAnswer
     requires { ⌜ Placed (length (now journal)) p ⌝ }
-    ensures { λ r. ⌜ ((cells : List ℕ) → left r cells (now (journal .exit)) ≡ rowLeaves cells (now (journal .entry)) p (ok [])) ⌝ }
+    ensures { λ r. ⌜ ((cells : List ℕ) → left r cells (now (journal .exit)) ≡ rowLeaves cells (now (journal .entry)) p next (ok [])) ⌝ }
 {
     let used = p.used;
+    let row = p.row;
     if !has_room(journal.len() / ENTRY_WIDTH, p, 0) {
         return StepAnswer::Refused(JOURNAL_FULL, p);
     }
-    close(journal, used, 0);
-    StepAnswer::Moved(p.advance(0))
+    close(journal, used, 0, row);
+    StepAnswer::Moved(p.advance(next, 0))
 }
 
-fn step_one(cells: &mut [u64], journal: &mut [u64], p: Position, w: Write) -> StepAnswer
+fn step_one(
+    cells: &mut [u64],
+    journal: &mut [u64],
+    p: Position,
+    next: usize,
+    w: Write,
+) -> StepAnswer
     requires { ⌜ (Placed (length (now journal)) p) × (There (now cells) (w .cell)) ⌝ }
-    ensures { λ r. ⌜ left r (now (cells .exit)) (now (journal .exit)) ≡ rowLeaves (now (cells .entry)) (now (journal .entry)) p (ok (w ∷ [])) ⌝ }
+    ensures { λ r. ⌜ left r (now (cells .exit)) (now (journal .exit)) ≡ rowLeaves (now (cells .entry)) (now (journal .entry)) p next (ok (w ∷ [])) ⌝ }
 {
     let used = p.used;
+    let row = p.row;
     if !has_room(journal.len() / ENTRY_WIDTH, p, 1) {
         return StepAnswer::Refused(JOURNAL_FULL, p);
     }
-    write_one(cells, journal, used, w);
-    StepAnswer::Moved(p.advance(1))
+    write_one(cells, journal, used, row, w);
+    StepAnswer::Moved(p.advance(next, 1))
 }
 
 // The writes are made in this order.
-fn step_two(cells: &mut [u64], journal: &mut [u64], p: Position, v: Write, w: Write) -> StepAnswer
+fn step_two(
+    cells: &mut [u64],
+    journal: &mut [u64],
+    p: Position,
+    next: usize,
+    v: Write,
+    w: Write,
+) -> StepAnswer
     requires { ⌜ (Placed (length (now journal)) p) × (There (now cells) (v .cell)) × (There (now cells) (w .cell)) ⌝ }
-    ensures { λ r. ⌜ left r (now (cells .exit)) (now (journal .exit)) ≡ rowLeaves (now (cells .entry)) (now (journal .entry)) p (ok (v ∷ w ∷ [])) ⌝ }
+    ensures { λ r. ⌜ left r (now (cells .exit)) (now (journal .exit)) ≡ rowLeaves (now (cells .entry)) (now (journal .entry)) p next (ok (v ∷ w ∷ [])) ⌝ }
 {
     let used = p.used;
+    let row = p.row;
     if !has_room(journal.len() / ENTRY_WIDTH, p, 2) {
         return StepAnswer::Refused(JOURNAL_FULL, p);
     }
-    write_two(cells, journal, used, v, w);
-    StepAnswer::Moved(p.advance(2))
+    write_two(cells, journal, used, row, v, w);
+    StepAnswer::Moved(p.advance(next, 2))
 }
 
+// A step that leads to row `next`.
 pub fn plain_step(
     regions: &[u64],
     cells: &mut [u64],
     journal: &mut [u64],
     p: Position,
+    next: usize,
     x: Instruction,
     reply: &[u64],
 ) -> StepAnswer
     requires { ⌜ (Opened (now regions) (now cells) x) × (Placed (length (now journal)) p) ⌝ }
-    ensures { λ r. ⌜ left r (now (cells .exit)) (now (journal .exit)) ≡ rowLeaves (now (cells .entry)) (now (journal .entry)) p (plainOutcome (now (regions .entry)) (now (cells .entry)) x (now (reply .entry))) ⌝ }
+    ensures { λ r. ⌜ left r (now (cells .exit)) (now (journal .exit)) ≡ rowLeaves (now (cells .entry)) (now (journal .entry)) p next (plainOutcome (now (regions .entry)) (now (cells .entry)) x (now (reply .entry))) ⌝ }
 {
     let outcome = plain_outcome(regions, cells, x, reply);
     match outcome {
         RowOutcome::Refused(number) => StepAnswer::Refused(number, p),
-        RowOutcome::NoWrites => step_none(journal, p),
-        RowOutcome::One(w) => step_one(cells, journal, p, w),
-        RowOutcome::Two(v, w) => step_two(cells, journal, p, v, w),
+        RowOutcome::NoWrites => step_none(journal, p, next),
+        RowOutcome::One(w) => step_one(cells, journal, p, next, w),
+        RowOutcome::Two(v, w) => step_two(cells, journal, p, next, v, w),
     }
 }

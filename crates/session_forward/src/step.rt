@@ -5,13 +5,17 @@ ghost use Prim.Native.Nat.{ℕ};
 ghost use lib.ListN.{length};
 ghost use Rattle.tables.specs.Tables.{tablesOf};
 ghost use Rattle.session.specs.Prepare.{entriesOf};
+ghost use Rattle.labels.specs.Labels.{labelsFit};
+ghost use Rattle.machine.specs.Next.{nextRow};
 ghost use Rattle.machine.specs.Outcome.{outcomeOf};
 ghost use Rattle.session_forward.specs.Forward.{left, stepped};
-ghost use Rattle.session_forward.specs.Step.{rowLook, currentRow, nextOutcome, rowLeaves, Steppable, RowReady};
+ghost use Rattle.session_forward.specs.Step.{rowLook, currentRow, hereOutcome, rowLeaves, Steppable, RowReady};
 use crate::call_step::call_step;
 use crate::plain_step::plain_step;
 use journal::entries::ENTRY_WIDTH;
 use journal::position::Position;
+use labels::labels::labels_fit;
+use machine::next::next_row;
 use machine::outcome::is_other;
 use session::answer::StepAnswer;
 use session::position::position_fits;
@@ -19,47 +23,54 @@ use tables::family::CALL;
 use tables::refusal::AT_END;
 use tables::refusal::FOREIGN_POSITION;
 use tables::refusal::OTHER_INSTRUCTION;
+use tables::refusal::UNFIT_LABELS;
 use tables::rows::INSTRUCTION_WIDTH;
 use tables::rows::Instruction;
 use tables::rows::instruction_at;
 
 // The row at a position, or a refusal by its number.
-pub enum NextRow {
+pub enum RowHere {
     At(Instruction),
     Refused(u64),
 }
 
-fn next_row(instructions: &[u64], entries: usize, p: Position) -> NextRow
-    ensures { λ r. ⌜ nextOutcome r ≡ currentRow (now (instructions .entry)) entries p ⌝ }
+fn row_here(instructions: &[u64], entries: usize, p: Position) -> RowHere
+    ensures { λ r. ⌜ hereOutcome r ≡ currentRow (now (instructions .entry)) entries p ⌝ }
 {
-    let row = p.row();
+    let row = p.row;
     if !position_fits(instructions, entries, p) {
-        return NextRow::Refused(FOREIGN_POSITION);
+        return RowHere::Refused(FOREIGN_POSITION);
     }
     if instructions.len() / INSTRUCTION_WIDTH <= row {
-        return NextRow::Refused(AT_END);
+        return RowHere::Refused(AT_END);
     }
-    NextRow::At(instruction_at(instructions, row))
+    RowHere::At(instruction_at(instructions, row))
 }
 
-// Any row: 9, then by CALL or no CALL. The nodes play no part in it.
+// Any row: 9, 20, then by CALL or no CALL. Whether the labels fit is looked at before. The nodes play no part in it.
 fn any_step(
     regions: &[u64],
     externs: &[u64],
     parameters: &[u64],
     arguments: &[u64],
+    instructions: &[u64],
+    fit: bool,
     cells: &mut [u64],
     journal: &mut [u64],
     p: Position,
     x: Instruction,
     reply: &[u64],
 ) -> StepAnswer
-    requires { ⌜ RowReady (now regions) (now externs) (now parameters) (now arguments) x (now cells) (length (now journal)) p ⌝ }
-    ensures { λ r. ⌜ ((nodes instructions : List ℕ) → left r (now (cells .exit)) (now (journal .exit)) ≡ rowLeaves (now (cells .entry)) (now (journal .entry)) p (outcomeOf (tablesOf (now (regions .entry)) (now (externs .entry)) (now (parameters .entry)) nodes (now (arguments .entry)) instructions) (now (cells .entry)) x (now (reply .entry)))) ⌝ }
+    requires { ⌜ RowReady (now regions) (now externs) (now parameters) (now arguments) (now instructions) x (now cells) (length (now journal)) p × (fit ≡ labelsFit (now instructions)) ⌝ }
+    ensures { λ r. ⌜ ((nodes : List ℕ) → left r (now (cells .exit)) (now (journal .exit)) ≡ rowLeaves (now (cells .entry)) (now (journal .entry)) p (nextRow (now (regions .entry)) (now (instructions .entry)) (now (cells .entry)) (p .row)) (outcomeOf (tablesOf (now (regions .entry)) (now (externs .entry)) (now (parameters .entry)) nodes (now (arguments .entry)) (now (instructions .entry))) (now (cells .entry)) x (now (reply .entry)))) ⌝ }
 {
     if is_other(x) {
         return StepAnswer::Refused(OTHER_INSTRUCTION, p);
     }
+    if !fit {
+        return StepAnswer::Refused(UNFIT_LABELS, p);
+    }
+    let next = next_row(regions, instructions, cells, p.row);
     if x.family == CALL {
         return call_step(
             regions,
@@ -69,15 +80,51 @@ fn any_step(
             cells,
             journal,
             p,
+            next,
             x,
             reply,
         );
     }
-    plain_step(regions, cells, journal, p, x, reply)
+    plain_step(regions, cells, journal, p, next, x, reply)
 }
 
-// One step on the cells.
+// One step on the cells, of a program of which it is known whether its labels fit.
 pub fn step_row(
+    regions: &[u64],
+    externs: &[u64],
+    parameters: &[u64],
+    arguments: &[u64],
+    instructions: &[u64],
+    fit: bool,
+    cells: &mut [u64],
+    journal: &mut [u64],
+    p: Position,
+    reply: &[u64],
+) -> StepAnswer
+    requires { ⌜ Steppable (now regions) (now externs) (now parameters) (now arguments) (now instructions) (now cells) (length (now journal)) × (fit ≡ labelsFit (now instructions)) ⌝ }
+    ensures { λ r. ⌜ ((nodes : List ℕ) → left r (now (cells .exit)) (now (journal .exit)) ≡ stepped (now (cells .entry)) (now (journal .entry)) p (nextRow (now (regions .entry)) (now (instructions .entry)) (now (cells .entry)) (p .row)) (rowLook (tablesOf (now (regions .entry)) (now (externs .entry)) (now (parameters .entry)) nodes (now (arguments .entry)) (now (instructions .entry))) (now (cells .entry)) (entriesOf (length (now (journal .entry)))) p (now (reply .entry)))) ⌝ }
+{
+    let here = row_here(instructions, journal.len() / ENTRY_WIDTH, p);
+    match here {
+        RowHere::Refused(number) => StepAnswer::Refused(number, p),
+        RowHere::At(x) => any_step(
+            regions,
+            externs,
+            parameters,
+            arguments,
+            instructions,
+            fit,
+            cells,
+            journal,
+            p,
+            x,
+            reply,
+        ),
+    }
+}
+
+// Forward behind 1, 2, 3, 10 and 4: the labels of the program are looked at once.
+pub fn step_cells(
     regions: &[u64],
     externs: &[u64],
     parameters: &[u64],
@@ -89,21 +136,19 @@ pub fn step_row(
     reply: &[u64],
 ) -> StepAnswer
     requires { ⌜ Steppable (now regions) (now externs) (now parameters) (now arguments) (now instructions) (now cells) (length (now journal)) ⌝ }
-    ensures { λ r. ⌜ ((nodes : List ℕ) → left r (now (cells .exit)) (now (journal .exit)) ≡ stepped (now (cells .entry)) (now (journal .entry)) p (rowLook (tablesOf (now (regions .entry)) (now (externs .entry)) (now (parameters .entry)) nodes (now (arguments .entry)) (now (instructions .entry))) (now (cells .entry)) (entriesOf (length (now (journal .entry)))) p (now (reply .entry)))) ⌝ }
+    ensures { λ r. ⌜ ((nodes : List ℕ) → left r (now (cells .exit)) (now (journal .exit)) ≡ stepped (now (cells .entry)) (now (journal .entry)) p (nextRow (now (regions .entry)) (now (instructions .entry)) (now (cells .entry)) (p .row)) (rowLook (tablesOf (now (regions .entry)) (now (externs .entry)) (now (parameters .entry)) nodes (now (arguments .entry)) (now (instructions .entry))) (now (cells .entry)) (entriesOf (length (now (journal .entry)))) p (now (reply .entry)))) ⌝ }
 {
-    let next = next_row(instructions, journal.len() / ENTRY_WIDTH, p);
-    match next {
-        NextRow::Refused(number) => StepAnswer::Refused(number, p),
-        NextRow::At(x) => any_step(
-            regions,
-            externs,
-            parameters,
-            arguments,
-            cells,
-            journal,
-            p,
-            x,
-            reply,
-        ),
-    }
+    let fit = labels_fit(instructions);
+    step_row(
+        regions,
+        externs,
+        parameters,
+        arguments,
+        instructions,
+        fit,
+        cells,
+        journal,
+        p,
+        reply,
+    )
 }

@@ -1,15 +1,16 @@
--- 01, Order: "Open: 1, 2, 3, 10, 4, 5, 9, then 6, 7, 8 by row."
-use Prim.Native.Nat.{ℕ, _*_, _<_}
+-- 01, Order: "Open: 1, 2, 3, 10, 4, 5, 9, then 6, 7, 8 by row."; 02, P4: "after 9 and before the calls" 20, "and then in open alone" 21.
+use Prim.Native.Nat.{ℕ, _*_, _<_, _≤_}
 use mathlib.Core.Bool.{Bool, true, false, not, cond}
 use mathlib.Core.List.{List, []}
 use mathlib.Core.Path.{_≡_}
 use lib.ListN.{length}
 use Rattle.tables.specs.Family as family
-use Rattle.tables.specs.Refusal.{otherInstruction}
+use Rattle.tables.specs.Refusal.{otherInstruction, unfitLabels, conditionNotBit}
 use Rattle.tables.specs.Outcome.{Outcome, ok, refuse, _>>_, need}
 use Rattle.tables.specs.First.{first, every}
 use Rattle.tables.specs.Tables.{Tables, tablesOf}
-use Rattle.tables.specs.Rows.{instructionRows, instructionAt}
+use Rattle.tables.specs.Rows.{instructionLimit, instructionRows, instructionAt}
+use Rattle.labels.specs.Labels.{labelsFit}
 use Rattle.loader.specs.Load.{loadLook}
 use Rattle.tables.specs.Cells.{cellCount}
 use Rattle.type_check.specs.Check.{checkOf}
@@ -21,6 +22,7 @@ use Rattle.journal.specs.Cells.{cellWidth}
 use Rattle.operands.specs.Kinds.{zeros}
 use Rattle.operands.specs.Reach.{Layout}
 use Rattle.machine.specs.Outcome.{isCall, isOther}
+use Rattle.machine.specs.Condition.{conditionsFit}
 use Rattle.session.specs.Prepare.{tablesLook, preparedOf}
 use Rattle.session.specs.Leaves.{Leaves, leaves, withTail}
 use Rattle.session.specs.declared.answer.OpenAnswer.{OpenAnswer}
@@ -52,12 +54,17 @@ callsFrom t row n = first (λ k. isRefused (callLook t k)) (callLook t) (ok tt) 
 unfoldable pub callsLook : Tables → Outcome (Unit {0})
 callsLook t = callsFrom t 0 (instructionRows (t .instructions))
 
--- "9, then 6, 7, 8 by row"
+-- "9, 20, 21, then 6, 7, 8 by row"
 unfoldable pub programLook : Tables → Outcome (Unit {0})
-programLook t = need (noOther (t .instructions)) otherInstruction >> callsLook t
+programLook t = do
+  need (noOther (t .instructions)) otherInstruction
+  need (labelsFit (t .instructions)) unfitLabels
+  need (conditionsFit (t .regions) (t .instructions)) conditionNotBit
+  callsLook t
 
--- What the functions over a program's CALLs ask for, index safety alone; and their tables, as a CALL looks at no node.
+-- What the functions over a program's rows ask for, index safety alone; and their tables, as these looks see no node.
 pub record CallsInside (externs parameters arguments instructions : List ℕ) : Type 0 where
+  pub few : instructionRows instructions ≤ instructionLimit
   pub row : (k : ℕ) → k < instructionRows instructions → instructionAt instructions k .family ≡ family.call
       → CallRanges externs parameters arguments (instructionAt instructions k)
 
@@ -75,14 +82,14 @@ abbrev pub unlessError : Verdict → OpenLook → OpenLook
 unlessError T.Accepted rest = rest
 unlessError (T.Error e) rest = L.Error e
 
--- "5, 9, then 6, 7, 8 by row"
+-- "5, 9, 20, 21, then 6, 7, 8 by row"
 unfoldable pub programVerdict : Tables → OpenLook
 programVerdict t =
     unlessError (checkOf (t .regions) (t .nodes) (t .instructions))
     (unlessRefused (programLook t)
     L.Accepted)
 
--- "1, 2, 3, 10 .. 5, 9, then 6, 7, 8 by row": open's looks without the buffers
+-- "1, 2, 3, 10 .. 5, 9, 20, 21, then 6, 7, 8 by row": open's looks without the buffers
 unfoldable pub tablesVerdict : Tables → OpenLook
 tablesVerdict t = unlessRefused (tablesLook t) (programVerdict t)
 
@@ -98,7 +105,7 @@ Opening = Leaves OpenAnswer (Unit {0})
 abbrev pub opening : OpenAnswer → List ℕ → Opening
 opening answer memory = leaves answer memory tt
 
--- on the cells of the regions: "Open zeroes each cell with its declared kind .. and gives position 0, 0"; "A refusal .. writes nothing"
+-- on the cells of the regions: "Open zeroes each cell with its declared kind .. and gives" the first position; "A refusal .. writes nothing"
 unfoldable pub openCells : List ℕ → List ℕ → OpenLook → Opening
 openCells regions cells L.Accepted = opening (Opened firstPosition) (zeros regions)
 openCells regions cells (L.Refused number) = opening (Refused number) cells

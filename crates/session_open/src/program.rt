@@ -1,4 +1,4 @@
-// Open's looks at the program's rows: 9 of any row, then 6, 7 and 8 row by row.
+// Open's looks at the program's rows: 9, 20 and 21 of any row, then 6, 7 and 8 row by row.
 ghost use mathlib.Core.Path.{_≡_};
 ghost use Prim.Native.Nat.{_<_};
 ghost use Rattle.tables.specs.Rows.{instructionRows};
@@ -6,10 +6,14 @@ ghost use Rattle.tables.specs.Look.{lookOutcome};
 ghost use Rattle.session_open.specs.Open.{callTables, CallsInside, noOther, callLook, callsLook, programLook};
 use extern_call::call::CallAnswer;
 use extern_call::call::resolves;
+use labels::labels::labels_fit;
+use machine::condition::conditions_fit;
 use machine::outcome::is_other;
 use tables::family;
 use tables::look::Look;
+use tables::refusal::CONDITION_NOT_BIT;
 use tables::refusal::OTHER_INSTRUCTION;
+use tables::refusal::UNFIT_LABELS;
 use tables::rows::INSTRUCTION_WIDTH;
 use tables::rows::instruction_at;
 
@@ -86,6 +90,12 @@ pub fn program_look(
 {
     if !no_other(instructions) {
         return Look::Refused(OTHER_INSTRUCTION);
+    }
+    if !labels_fit(instructions) {
+        return Look::Refused(UNFIT_LABELS);
+    }
+    if !conditions_fit(regions, instructions) {
+        return Look::Refused(CONDITION_NOT_BIT);
     }
     calls_look(regions, externs, parameters, arguments, instructions)
 }

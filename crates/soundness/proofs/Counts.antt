@@ -1,8 +1,8 @@
 -- How many changes a row makes at most, whatever the cells hold: by its family alone. Assumes nothing.
 use Prim.Native.Nat.{ℕ, _%_, _≤_}
 use mathlib.Core.Bool.{Bool, true, false, not, cond}
-use mathlib.Core.List.{List, _∷_}
-use mathlib.Core.Path.{_≡_, ap, sym, _∙_}
+use mathlib.Core.List.{List, [], _∷_}
+use mathlib.Core.Path.{_≡_, refl, ap, sym, _∙_}
 use native.Mathlib.Omega.{arith}
 use lib.Dec.{eqb}
 use lib.ListN.{length}
@@ -12,7 +12,9 @@ use Rattle.tables.specs.Family as family
 use Rattle.tables.specs.Outcome.{ok}
 use Rattle.tables.specs.Tables.{Tables}
 use Rattle.tables.specs.declared.rows.Instruction.{Instruction}
+use Rattle.tables.proofs.Cases.{by-key, past-keys}
 use Rattle.tables.proofs.Passed.{both, passed}
+use Rattle.labels.specs.Labels.{labelsFit}
 use Rattle.journal.specs.declared.cells.Write.{Write}
 use Rattle.call_reply.specs.Call.{replyWidth, replyLimit, replyRows, replyLengthFits, replyFits, replyWrites, callJudged, callOutcome}
 use Rattle.machine.specs.Outcome.{isCall, isOther, plainOutcome, outcomeOf}
@@ -24,6 +26,26 @@ use Rattle.machine.proofs.WritesLaws.{changes, changesOf, writes-count}
 -- "exchange 2 .., call one per reply row"; "a reply is up to 64 rows"
 unfoldable pub mostChanges : ℕ → ℕ
 mostChanges f = caseOf f ((family.call, replyLimit) ∷ changes) 0
+
+-- a CALL's are the most
+pub most-few : (f : ℕ) → mostChanges f ≤ replyLimit
+unfolding mostChanges caseOf
+most-few f =
+    by-key (λ k. mostChanges k ≤ replyLimit)
+    (
+    (family.call, omega arith)
+    ∷ (family.arithmetic, omega arith)
+    ∷ (family.comparison, omega arith)
+    ∷ (family.binaryLogic, omega arith)
+    ∷ (family.unary, omega arith)
+    ∷ (family.move, omega arith)
+    ∷ (family.exchange, omega arith)
+    ∷ (family.load, omega arith)
+    ∷ (family.store, omega arith)
+    ∷ []
+    )
+    f
+    (λ past. rw (past-keys past ((family.call, replyLimit) ∷ changes) 0 refl) (omega arith))
 
 module _ (t : Tables) (x : Instruction) (reply : List ℕ) {ws : List Write} where
   -- "a reply is up to 64 rows"
@@ -40,7 +62,7 @@ module _ (t : Tables) (x : Instruction) (reply : List ℕ) {ws : List Write} whe
 
   pub outcome-most : Laid (t .regions) → (cells : List ℕ) → outcomeOf t cells x reply ≡ ok ws → length ws ≤ mostChanges (x .family)
   unfolding outcomeOf mostChanges changesOf caseOf
-  outcome-most laid cells e = at (isCall x) (passed (not (isOther x)) _ _ _ e .1)
+  outcome-most laid cells e = at (isCall x) (passed (labelsFit (t .instructions)) _ _ _ (passed (not (isOther x)) _ _ _ e .1) .1)
     where
       at : (c : Bool) → cond c (callOutcome (t .regions) (t .externs) (t .parameters) (t .arguments) x reply) (plainOutcome (t .regions) cells x reply) ≡ ok ws
           → length ws ≤ cond c replyLimit (changesOf (x .family))

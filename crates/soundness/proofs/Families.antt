@@ -4,11 +4,11 @@ use mathlib.Core.Bool.{Bool, true}
 use mathlib.Core.List.{List}
 use mathlib.Core.Path.{_≡_, refl, sym, _∙_}
 use borrow.Author.Tests.{eqb-true}
-use Rattle.words.specs.Kind.{widthOf, fitsKind}
+use Rattle.words.specs.Kind.{bit, widthOf, fitsKind}
 use Rattle.words.specs.Fits.{fits-of}
 use Rattle.tables.specs.Outcome.{Outcome}
 use Rattle.tables.specs.declared.rows.Instruction.{Instruction}
-use Rattle.journal.specs.Each.{also}
+use Rattle.journal.specs.Each.{none, also}
 use Rattle.operands.specs.Cells.{sourceOf}
 use Rattle.operators.specs.Operators.{arithmeticKinds, arithmeticResult, logicKinds, logicResult}
 use Rattle.machine.specs.Families as F
@@ -19,7 +19,7 @@ use Rattle.machine.proofs.WritesLaws.{single}
 use Rattle.operands.specs.Typed.{Typed}
 use Rattle.soundness.proofs.Regions.{Region, Cell, indexed-ends}
 use Rattle.soundness.proofs.Results.{arithmetic-ends, comparison-below, logic-ends, unary-below}
-use Rattle.soundness.proofs.Values.{Holds, Keeps, kept, kept-below, read-ends, put-ends, offset-ends}
+use Rattle.soundness.proofs.Values.{Holds, Keeps, kept, kept-below, read-ends, put-ends, word-ends}
 use Rattle.soundness.proofs.Codes as C
 use Rattle.soundness.proofs.Codes.{Trues}
 
@@ -75,11 +75,15 @@ module _ {regions cells : List ℕ} (typed : Typed regions cells) (x : Instructi
   unfolding F.loadOf
   load-sound t g o (_, (_, (_, (integer, (same, _))))) =
       let q = eqb-true d e same in
-      bind (offset-ends typed (rw (eqb-true s 1 integer) at o)) (λ i u. bind (indexed-ends i g refl) (λ c r.
+      bind (word-ends typed (rw (eqb-true s 1 integer) at o)) (λ i u. bind (indexed-ends i g refl) (λ c r.
       bind (read-ends typed r) (λ v h. fine (single (kept-below t {w = v .word} (h .kind-is ∙ sym q) (rw q (h .below)))))))
 
   pub store-sound : Region regions d (n .first) → Cell regions e (a .second) → Source → Trues (C.storeWants d e s) → Keeps regions (F.storeOf regions cells x n a)
   unfolding F.storeOf
   store-sound g o src (_, (_, (_, (integer, (kinds, _))))) =
-      bind (offset-ends typed (rw (eqb-true e 1 integer) at o)) (λ i u. bind src (λ v k.
+      bind (word-ends typed (rw (eqb-true e 1 integer) at o)) (λ i u. bind src (λ v k.
       bind (indexed-ends i g refl) (λ c r. put-ends typed v r k kinds)))
+
+  pub conditional-sound : Cell regions d (a .first) → d ≡ bit → Keeps regions (F.conditionalOf cells a)
+  unfolding F.conditionalOf
+  conditional-sound t q = bind (word-ends typed (rw q at t)) (λ w u. fine none)

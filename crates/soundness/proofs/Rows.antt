@@ -1,11 +1,13 @@
--- A row that is no CALL and passes the type check, on cells of the declared kinds: no 18, and every write keeps the kinds. Assumes nothing.
+-- A row that is no CALL and passes the type check and 21, on cells of the declared kinds: no 18, and every write keeps the kinds. Assumes nothing.
 use Prim.Native.Nat.{ℕ, _^_, _<_}
-use mathlib.Core.Bool.{true, false, false≢true}
+use mathlib.Core.Bool.{true, false, false≢true, _||_}
 use mathlib.Core.List.{List, [], _∷_}
 use mathlib.Core.Path.{_≡_, refl, sym, ap, _∙_, subst}
+use native.Mathlib.Omega.{arith}
 use lib.ListN.{length}
 use lib.Dec.{eqb}
 use borrow.Author.Tests.{ltb-true}
+use Rattle.words.specs.Kind.{bit}
 use Rattle.tables.specs.Cases.{caseOf}
 use Rattle.tables.specs.Family as family
 use Rattle.tables.specs.Operator as operator
@@ -20,9 +22,10 @@ use Rattle.type_rules.specs.Codes.{firstCode, secondCode, referenceCode, operan
 use Rattle.type_check.proofs.NameLaws.{logic-form}
 use Rattle.type_rules.proofs.CodeLaws.{Code, name-code, operand-code, reference-is, source-is}
 use Rattle.journal.specs.Each.{none}
-use Rattle.tables.specs.Names.{unused, Operands, operands, operandsByFamily, operandsOf, isName, namesFirst, namesSecond, indexesFirst, indexesSecond, namesSource}
+use Rattle.tables.specs.Names.{unused, reference, Operands, operands, operandsByFamily, operandsOf, isName, hasIndex, namesFirst, namesSecond, indexesFirst, indexesSecond, namesSource}
 use Rattle.operands.specs.Cells.{sourceOf}
-use Rattle.machine.specs.Families.{noWrites, families, familyOf}
+use Rattle.machine.specs.Families.{noWrites, conditionalOf, families, familyOf}
+use Rattle.machine.specs.Condition.{hasCondition}
 use Rattle.machine.specs.Outcome.{plainOutcome}
 use Rattle.operands.specs.declared.address.NamedRegions.{NamedRegions}
 use Rattle.operands.specs.declared.address.Addresses.{Addresses}
@@ -34,7 +37,7 @@ use Rattle.soundness.proofs.Codes as C
 use Rattle.soundness.proofs.Families as F
 use Rattle.soundness.proofs.Values.{Holds, Keeps, source-ends}
 
--- ---- what the loader and the type check say of a row
+-- ---- what the loader, the type check and open's look at the conditions say of a row
 
 pub record Accepted (regions : List ℕ) (x : Instruction) : Type 0 where
   pub fit : RegionsFit regions
@@ -42,6 +45,7 @@ pub record Accepted (regions : List ℕ) (x : Instruction) : Type 0 where
   pub form : formAllowed (x .family) (x .«source_form») ≡ true
   pub word : x .«source_first» < 2 ^ 64
   pub rule : eqb (x .family) family.frame ≡ false → rowRule regions x ≡ pass
+  pub condition : hasCondition x ≡ true → firstCode regions x ≡ bit
 
 -- ---- the row
 
@@ -161,6 +165,18 @@ module _ {regions cells : List ℕ} (typed : Typed regions cells) (x : Instructi
         λ n a p. keyed n a q (F.store-sound typed x n a d e s (p .named .first refl) (p .second refl) (source-read l p) w),
       )
 
+  -- a jump with a condition: its rule passes whatever the condition is, so that it is a BIT comes from 21
+  conditional-row : (f : ℕ) → (eqb f family.jumpWhen || eqb f family.jumpUnless) ≡ true → operandsOf f ≡ operands reference unused
+      → formAllowed f (x .«source_form») ≡ eqb (x .«source_form») source.none
+      → ((n : NamedRegions) (a : Addresses) → caseOf f (families regions cells x n a) noWrites ≡ conditionalOf cells a) → Row f
+  unfolding namesFirst namesSecond indexesFirst
+  conditional-row f has uses form does q h =
+      let is : d ≡ bit = k .condition (rw q has) in
+      let second = ap (λ (o : Operands). isName (o .second)) uses in (
+        record { first = λ t. omega (arith, is); second = λ t. absurd (false≢true (sym second ∙ t)); source = no-source (x .«source_form») (sym form ∙ (rw q at (k .form))) },
+        λ n a p. keyed n a q (rw (does n a) (F.conditional-sound typed x n a d e s (p .first (ap (λ (o : Operands). hasIndex (o .first)) uses)) is)),
+      )
+
   -- a family with no operands: nothing is looked up, and nothing changes
   idle : (f : ℕ) → operandsOf f ≡ operands unused unused → formAllowed f (x .«source_form») ≡ eqb (x .«source_form») source.none
       → ((n : NamedRegions) (a : Addresses) → caseOf f (families regions cells x n a) noWrites ≡ noWrites) → Row f
@@ -188,6 +204,8 @@ module _ {regions cells : List ℕ} (typed : Typed regions cells) (x : Instructi
       ∷ (family.frame, idle family.frame refl refl (λ n a. refl))
       ∷ (family.call, idle family.call refl refl (λ n a. refl))
       ∷ (family.other, idle family.other refl refl (λ n a. refl))
+      ∷ (family.jumpWhen, conditional-row family.jumpWhen refl refl refl (λ n a. refl))
+      ∷ (family.jumpUnless, conditional-row family.jumpUnless refl refl refl (λ n a. refl))
       ∷ []
       )
       f

@@ -2,11 +2,11 @@
 use Prim.Native.Nat.{ℕ, _+_, _*_, _<_}
 use mathlib.Core.Bool.{Bool, true, false, not, cond}
 use mathlib.Core.List.{List}
-use mathlib.Core.Path.{_≡_, refl}
+use mathlib.Core.Path.{_≡_, refl, _∙_}
 use native.Mathlib.Omega.{arith}
 use lib.Dec.{ltb}
 use borrow.Author.Tests.{ltb-true}
-use Rattle.tables.specs.Refusal.{journalFull, noRule, otherInstruction}
+use Rattle.tables.specs.Refusal.{journalFull, noRule, otherInstruction, unfitLabels}
 use Rattle.tables.specs.Outcome.{Outcome, ok, refuse}
 use Rattle.tables.specs.Tables.{Tables}
 use Rattle.tables.specs.Rows.{instructionRows, instructionAt}
@@ -14,13 +14,18 @@ use Rattle.word_rules.specs.Instruction.{operatorsOf, formAllowed, instructionA
 use Rattle.tables.specs.declared.rows.Instruction.{Instruction}
 use Rattle.loader.proofs.Loaded.{Loaded, loaded, region-kind, instruction-allowed}
 use Rattle.tables.proofs.Cases.{among}
+use Rattle.tables.proofs.FirstLaws.{every-row}
 use Rattle.tables.proofs.Passed.{both, passed}
+use Rattle.labels.specs.Labels.{labelsFit}
+use Rattle.type_rules.proofs.CodeLaws.{code-kind}
 use Rattle.type_check.proofs.CheckLaws.{rule-passes}
 use Rattle.journal.specs.declared.cells.Write.{Write}
 use Rattle.journal.specs.Each.{Each}
 use Rattle.journal.proofs.CellsLaws.{each-map}
 use Rattle.call_reply.specs.Call.{callOutcome}
 use Rattle.machine.specs.Outcome.{isCall, isOther, plainOutcome, outcomeOf, outcomeAt}
+use Rattle.machine.specs.Condition.{conditionFits, conditionsFit}
+use Rattle.machine.proofs.ConditionLaws.{condition-bit}
 use Rattle.machine.proofs.Ends.{Ends, unmet, Ruled, tested, weaken, gives, never-met}
 use Rattle.operands.specs.Typed.{Typed}
 use Rattle.soundness.specs.Sound.{Checked, GoodWrite, Sound}
@@ -40,7 +45,7 @@ module _ (t : Tables) (checked : Checked t) where
 
   -- what was looked at of a row
   accepted : (row : ℕ) → row < instructionRows (t .instructions) → Accepted (t .regions) (instructionAt (t .instructions) row)
-  unfolding instructionAllowed
+  unfolding instructionAllowed conditionsFit
   accepted row h =
       let x = instructionAt (t .instructions) row in
       let (o, e) = both (ltb (x .operator) (operatorsOf (x .family))) _ (instruction-allowed tables row h) in
@@ -50,6 +55,10 @@ module _ (t : Tables) (checked : Checked t) where
         form = both (formAllowed (x .family) (x .«source_form»)) _ e .0;
         word = checked .words (row * 9 + 7);
         rule = rule-passes (t .regions) (t .nodes) (t .instructions) (checked .passes) row h;
+        condition = λ e.
+            let fits = every-row (λ k. conditionFits (t .regions) (instructionAt (t .instructions) k)) (instructionRows (t .instructions)) (checked .conditions) row h in
+            let b = condition-bit (t .regions) x e fits in
+            code-kind (t .regions) (x .«first_name») (b .found) (omega (arith, b .kind)) ∙ b .kind;
       }
 
   -- a write of a row that is no CALL
@@ -73,10 +82,13 @@ module _ (t : Tables) (checked : Checked t) where
     plain-ends : Keeps (t .regions) plain
     plain-ends = plain-sound typed x (accepted row h) reply
 
-    -- nor is 9 one of these
+    -- nor are 9 and 20 among these
     row-unmet : (n : ℕ) → among n unmet ≡ true → outcomeAt t cells row reply ≡ refuse n → ⊥
     unfolding outcomeAt outcomeOf
-    row-unmet n m e = never-met n m (tested {R = Ruled} {Q = λ ws. Unit {0}} otherInstruction (not (isOther x)) refl (λ o. ends (isCall x))) e
+    row-unmet n m e =
+        never-met n m
+        (tested {R = Ruled} {Q = λ ws. Unit {0}} otherInstruction (not (isOther x)) refl (λ o.
+        tested unfitLabels (labelsFit (t .instructions)) refl (λ l. ends (isCall x)))) e
       where
         ends : (c : Bool) → Ends Ruled (λ ws. Unit {0}) (cond c called plain)
         ends true = call-ends (t .regions) (t .externs) (t .parameters) (t .arguments) x reply
@@ -84,7 +96,7 @@ module _ (t : Tables) (checked : Checked t) where
 
     row-good : (ws : List Write) → outcomeAt t cells row reply ≡ ok ws → Each (GoodWrite t x) ws
     unfolding outcomeAt outcomeOf
-    row-good ws e = at (isCall x) refl (passed (not (isOther x)) _ _ _ e .1)
+    row-good ws e = at (isCall x) refl (passed (labelsFit (t .instructions)) _ _ _ (passed (not (isOther x)) _ _ _ e .1) .1)
       where
         at : (c : Bool) → isCall x ≡ c → cond c called plain ≡ ok ws → Each (GoodWrite t x) ws
         at true q e = call-good t x fit reply ws e

@@ -18,7 +18,7 @@ use Rattle.type_rules.specs.Codes.{codeOf, operandCode}
 use Rattle.journal.specs.declared.cells.Write.{Write}
 use Rattle.journal.specs.Each.{Each}
 use Rattle.tables.specs.Names.{namesSource}
-use Rattle.operands.specs.Cells.{cellKind, readOf, sourceOf, offsetOf, write}
+use Rattle.operands.specs.Cells.{cellKind, readOf, sourceOf, readWord, write}
 use Rattle.operators.specs.Operators.{comparisonKinds}
 use Rattle.machine.specs.Families as F
 use Rattle.operands.specs.declared.cell.Value.{Value}
@@ -95,6 +95,7 @@ module _ {regions cells : List ℕ} (typed : Typed regions cells) where
           ruled e (fine (single (kept-below t {w = v .word} (sym q) (rw q l))))
       at false false ea eb e = let q = eqb-true k s e in fine (single (kept-below t {w = v .word} (sym q) (rw q (h .below))))
 
-  pub offset-ends : {c : ℕ} → Cell regions 1 c → Ends Ruled (λ i. Unit {0}) (offsetOf cells c)
-  unfolding offsetOf
-  offset-ends t = bind (read-ends t) (λ v h. ruled (eq-eqb (v .kind) 1 (h .kind-is)) (fine tt))
+  -- an offset or a condition: a cell of the one kind that has a rule
+  pub word-ends : {k c : ℕ} → Cell regions k c → Ends Ruled (λ i. Unit {0}) (readWord k cells c)
+  unfolding readWord
+  word-ends {k} t = bind (read-ends t) (λ v h. ruled (eq-eqb (v .kind) k (h .kind-is)) (fine tt))

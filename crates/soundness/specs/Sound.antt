@@ -1,5 +1,6 @@
 -- What holds of every row's outcome on cells of the declared kinds, and what of open's acceptance it rests on.
 use Prim.Native.Nat.{ℕ, _^_, _<_}
+use mathlib.Core.Bool.{true}
 use mathlib.Core.List.{List}
 use mathlib.Core.Path.{_≡_}
 use lib.ListN.{getD}
@@ -18,14 +19,17 @@ use Rattle.operands.specs.Kinds.{zeros}
 use Rattle.operands.specs.Reach.{Laid}
 use Rattle.operands.specs.Typed.{Fits, Typed}
 use Rattle.machine.specs.Outcome.{outcomeAt}
+use Rattle.machine.specs.Condition.{conditionsFit}
 use Rattle.soundness.specs.WriteSet.{MayChange}
 
 -- ---- what it rests on
 
--- Of open's acceptance: the loader's looks (1, 2, 3), 10 and the type check (5). That every CALL resolves (6, 7, 8) is not used: a CALL that does not is refused by these numbers.
+-- Of open's acceptance: the loader's looks (1, 2, 3), 10, the type check (5) and the conditions (21). That every CALL resolves (6, 7, 8) and that the labels fit (20) is not used:
+-- a row is refused by these numbers otherwise.
 pub record Checked (t : Tables) : Type 0 where
   pub loads : loadLook t ≡ ok tt
   pub passes : checkOf (t .regions) (t .nodes) (t .instructions) ≡ Accepted
+  pub conditions : conditionsFit (t .regions) (t .instructions) ≡ true
   -- "at most 4,096 cells"
   pub laid : Laid (t .regions)
   -- "Tables, in 64-bit words"

@@ -1,7 +1,8 @@
-// About the current row: a CALL's resolved arguments and access sets, a frame's references and how many nodes its type check looked at.
+// About the current row: a CALL's resolved arguments and access sets, a frame's references and how many nodes its type check looked at, where a jump leads.
 use crate::explain::show_call;
 use console::references::WalkAnswer;
 use console::references::memory_references;
+use labels::labels::label_row;
 use stepper_calls::access_row;
 use stepper_calls::looked::looked_line;
 use stepper_desk::current::Current;
@@ -22,6 +23,10 @@ use stepper_words::heading::Table;
 use stepper_words::names::NAME_WORDS;
 use tables::family::CALL;
 use tables::family::FRAME;
+use tables::family::JUMP;
+use tables::family::JUMP_UNLESS;
+use tables::family::JUMP_WHEN;
+use tables::rows::INSTRUCTION_WIDTH;
 use tables::rows::Instruction;
 
 // The read and write sets of a CALL.
@@ -92,8 +97,23 @@ fn about_call(
     show_access(source, names, tables, desk, row);
 }
 
+// The row that a jump leads to where it is taken; a program that was turned down may have none.
+fn leads_to(line: Line, instructions: &[u64], x: Instruction) -> Line {
+    let row = label_row(instructions, x.second_name);
+    if row >= instructions.len() / INSTRUCTION_WIDTH {
+        return line.text(b"  leads to no row");
+    }
+    let told = line.text(b"  leads to row ").number(row as u64);
+    let family = x.family;
+    match family {
+        JUMP_WHEN => told.text(b" where its condition is 1"),
+        JUMP_UNLESS => told.text(b" where its condition is 0"),
+        _ => told,
+    }
+}
+
 fn nothing_more() {
-    text(b"there is more to tell of a CALL and of a frame's row only\n");
+    text(b"there is more to tell of a CALL, a jump and a frame's row only\n");
 }
 
 fn about_row(
@@ -115,6 +135,11 @@ fn about_row(
             references(line, source, names, nodes, x).end();
             looked_line(tables, lengths, row)
         }
+        JUMP | JUMP_WHEN | JUMP_UNLESS => {
+            let instructions = table(tables, Table::Instructions, lengths);
+            this_row(source, names, tables, desk, row);
+            leads_to(Line::new(desk.view), instructions, x).end()
+        }
         _ => nothing_more(),
     }
 }
@@ -122,7 +147,7 @@ fn about_row(
 pub fn about(source: &[u8], names: &[u64; NAME_WORDS], tables: &[u64; TABLE_WORDS], desk: Desk) {
     let lengths = desk.lengths;
     let position = desk.position;
-    let row = position.row();
+    let row = position.row;
     let current = row_at(table(tables, Table::Instructions, lengths), row);
     match current {
         Current::Row(x) => about_row(source, names, tables, desk, row, x),

@@ -6,12 +6,14 @@ use script::line::part;
 use script::line::word_at;
 use stepper_calls::length::measure;
 use stepper_calls::step::back_key;
+use stepper_calls::step::run_key;
 use stepper_calls::verdict::check_key;
 use stepper_desk::input::LINE;
 use stepper_desk::input::ask;
 use stepper_desk::input::typed_line;
 use stepper_desk::key::Key;
 use stepper_desk::key::key_of;
+use stepper_desk::key::no_allowance;
 use stepper_desk::key::no_file;
 use stepper_desk::load::absent;
 use stepper_desk::load::load;
@@ -98,6 +100,7 @@ fn other_key(
         Key::Bits => return desk.viewed(view.with_bits()),
         Key::More => return desk.viewed(view.with_all()),
         Key::Quit => return desk.stopped(),
+        Key::NoAllowance => no_allowance(),
         _ => no_such_key(),
     }
     desk
@@ -115,6 +118,7 @@ fn step_key(
 ) -> Desk {
     match key {
         Key::Forward => forward_key(source, names, tables, desk, memory, journal),
+        Key::Run(allowance) => run_key(tables, desk, memory, journal, allowance),
         Key::Back => back_key(tables, desk, memory, journal),
         _ => reset(source, names, tables, desk, memory, journal),
     }

@@ -99,9 +99,9 @@ fn reply_for(
 ) -> Reply {
     let lengths = desk.lengths;
     let position = desk.position;
-    if is_call(table(tables, Table::Instructions, lengths), position.row()) {
+    if is_call(table(tables, Table::Instructions, lengths), position.row) {
         let mut rows = [0; RESOLVE_WORDS];
-        let count = show_call(source, names, tables, desk, position.row(), &mut rows);
+        let count = show_call(source, names, tables, desk, position.row, &mut rows);
         return ask_reply(&rows, count, reply, desk.view);
     }
     Reply::Words(0)

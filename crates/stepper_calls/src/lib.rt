@@ -1,4 +1,4 @@
-// The public calls on the tables as the terminal holds them; by them a step, the type check's verdict in words, the first CALL that does not resolve, how many nodes of a frame were looked at, how long a journal is enough.
+// The public calls on the tables as the terminal holds them; by them a step, a run, the type check's verdict in words, the first CALL that does not resolve, how many nodes of a frame were looked at, how long a journal is enough.
 pub mod bad_call;
 pub mod length;
 pub mod looked;
@@ -15,9 +15,11 @@ use console::resolve::resolve;
 use console_session::back::back;
 use console_session::forward::forward;
 use console_session::open::open;
+use console_session::run::run;
 use extern_call::rows::ResolveAnswer;
 use journal::position::Position;
 use session::answer::OpenAnswer;
+use session::answer::RunAnswer;
 use session::answer::StepAnswer;
 use session_length::length::LengthAnswer;
 use session_length::length::journal_length;
@@ -134,6 +136,28 @@ pub fn step_forward(
         journal,
         position,
         reply,
+    )
+}
+
+pub fn run_steps(
+    tables: &[u64],
+    lengths: [usize; TABLES],
+    memory: &mut [u64],
+    journal: &mut [u64],
+    position: Position,
+    allowance: u64,
+) -> RunAnswer {
+    run(
+        table(tables, Table::Regions, lengths),
+        table(tables, Table::Externs, lengths),
+        table(tables, Table::Parameters, lengths),
+        table(tables, Table::Nodes, lengths),
+        table(tables, Table::Arguments, lengths),
+        table(tables, Table::Instructions, lengths),
+        memory,
+        journal,
+        position,
+        allowance,
     )
 }
 

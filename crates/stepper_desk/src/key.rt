@@ -1,13 +1,18 @@
 // What a line asks for, and what a key needs.
 use crate::state::Desk;
 use script::line::byte_at;
+use script::line::part;
 use script::line::word_at;
 use stepper_lines::print::style;
 use stepper_lines::print::text;
+use stepper_tables::word::Written;
+use stepper_tables::word::integer;
 
-// What a key asks for. The empty line is forward.
+// What a key asks for. The empty line is forward; a run has its allowance, so many steps, or none that can be read.
 pub enum Key {
     Forward,
+    Run(u64),
+    NoAllowance,
     Back,
     Reset,
     About,
@@ -25,6 +30,7 @@ impl Key {
     pub fn steps(self) -> bool {
         match self {
             Key::Forward => true,
+            Key::Run(_) => true,
             Key::Back => true,
             Key::Reset => true,
             _ => false,
@@ -58,16 +64,38 @@ fn key_by(byte: u8) -> Key {
     }
 }
 
+// A run, by what stands after its key: one number that has no minus.
+fn run_by(line: &[u8], at: usize) -> Key {
+    let word = word_at(line, at, line.len());
+    let more = word_at(line, word.end, line.len());
+    if (more.start < more.end) | (byte_at(line, word.start) == b'-') {
+        return Key::NoAllowance;
+    }
+    let written = integer(part(line, word.start, word.end));
+    match written {
+        Written::Word(allowance) => Key::Run(allowance),
+        Written::Not(_) => Key::NoAllowance,
+    }
+}
+
 // The line's key: its first word, where that is one byte.
 pub fn key_of(line: &[u8]) -> Key {
     let word = word_at(line, 0, line.len());
     if word.start >= word.end {
         return Key::Forward;
     }
-    if word.end == std::num::wrapping_add_usize(word.start, 1) {
-        return key_by(byte_at(line, word.start));
+    if word.end != std::num::wrapping_add_usize(word.start, 1) {
+        return Key::Unknown;
     }
-    Key::Unknown
+    let byte = byte_at(line, word.start);
+    if byte == b'g' {
+        return run_by(line, word.end);
+    }
+    key_by(byte)
+}
+
+pub fn no_allowance() {
+    text(b"g takes one number: how many steps it may take, as g 100\n");
 }
 
 pub fn no_file() {

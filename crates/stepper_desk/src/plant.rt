@@ -85,8 +85,9 @@ fn plant_line(
         Heading::Position => {
             let words = words_after(text, names, known_names, heading, word.end, line.end);
             Position {
-                done: words[0] as usize,
-                used: words[1] as usize,
+                row: words[0] as usize,
+                done: words[1] as usize,
+                used: words[2] as usize,
             }
         }
         _ => position,

@@ -16,10 +16,11 @@ pub enum State {
     Refused(u64),
 }
 
-// How long a journal is enough for every order of keys: so many entries; none is sure to be, where the rows count more than a journal has; untold of a program that is turned down whatever is lent.
+// How long a journal is enough for every order of keys: so many entries; none is sure to be, where the rows count more than a journal has or one of them is a jump; untold of a program that is turned down whatever is lent.
 pub enum Enough {
     Entries(usize),
     TooMany(usize),
+    Jumps,
     Untold,
 }
 

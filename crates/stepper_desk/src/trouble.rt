@@ -43,6 +43,7 @@ fn word_text(word: &[u8]) {
 fn needed(place: Place) {
     match place {
         Place::Name => text(b"a name"),
+        Place::Label => text(b"a label"),
         Place::Kind => text(b"a kind"),
         Place::ReturnKind => text(b"a return kind"),
         Place::Mutability => text(b"mutable or immutable"),
@@ -62,6 +63,7 @@ fn needed(place: Place) {
 fn allowed(place: Place) {
     match place {
         Place::Name => text(b": letters, digits, _ and -, a letter first"),
+        Place::Label => text(b": @ and a name, as @again"),
         Place::Kind => text(b": BIT, INTEGER, OCTET or REAL"),
         Place::ReturnKind => text(b": BIT, INTEGER, OCTET, REAL or none"),
         Place::Shape => text(b": scalar, fixed or variable"),

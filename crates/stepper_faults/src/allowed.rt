@@ -1,4 +1,5 @@
 // The words that a place of a row allows.
+use stepper_words::place::LAST_FAMILY;
 use stepper_words::place::Place;
 use tables::argument_form;
 use tables::family;
@@ -56,13 +57,14 @@ fn source_forms(family: u64) -> Allowed {
 pub fn words_at(place: Place, family: u64) -> Allowed {
     match place {
         Place::Name => Allowed::Any,
+        Place::Label => Allowed::Any,
         Place::Kind => Allowed::UpTo(kind::REAL),
         Place::ReturnKind => Allowed::UpTo(parameter_shape::NO_RETURN),
         Place::Mutability => Allowed::UpTo(1),
         Place::Shape => Allowed::UpTo(parameter_shape::VARIABLE_VECTOR),
         Place::Tag => Allowed::UpTo(node_tag::VARIABLE),
         Place::Form => Allowed::UpTo(argument_form::IMMEDIATE),
-        Place::Operation => Allowed::UpTo(family::OTHER),
+        Place::Operation => Allowed::UpTo(LAST_FAMILY),
         Place::Operator => Allowed::UpTo(last_operator(family)),
         Place::SourceForm => source_forms(family),
         Place::Whole => Allowed::Any,

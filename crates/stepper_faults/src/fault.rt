@@ -1,4 +1,4 @@
-// Where a refusal 1, 2 or 3 lies. Rows and columns count from 0.
+// Where a refusal 1, 2, 3, 20 or 21 lies. Rows and columns count from 0.
 use stepper_words::heading::Table;
 
 // A row, and where its words begin in its table.
@@ -16,6 +16,16 @@ pub struct Range {
     pub rows: usize,
 }
 
+// What is wrong with a jump.
+pub enum Jump {
+    // Its label, which is on no row.
+    NoTarget(u64),
+    // Its condition's name, which no region has.
+    Undeclared(u64),
+    // Its condition's name and kind.
+    NotBit(u64, u64),
+}
+
 pub enum Where {
     // The table, its words, and the words of a row.
     NotWholeRows(Table, usize, usize),
@@ -27,8 +37,9 @@ pub enum Where {
     // A frame, its nodes, and how many of them are one tree already; 0 where they are too few.
     NotOneTree(Row, Range, u64),
     Whole(Row),
-    // The table, the name, and its first two rows.
+    // The table, the name or the label, and its first two rows.
     SameName(Table, u64, usize, usize),
+    Jump(Row, Jump),
     Nowhere,
 }
 
@@ -65,6 +76,7 @@ impl Where {
             Where::NotOneTree(row, _, _) => row.table,
             Where::Whole(row) => row.table,
             Where::SameName(table, _, _, _) => table,
+            Where::Jump(row, _) => row.table,
             Where::Nowhere => Table::Regions,
         }
     }

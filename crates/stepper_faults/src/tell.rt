@@ -4,33 +4,22 @@ use crate::allowed::words_at;
 use crate::fault::Range;
 use crate::fault::Row;
 use crate::fault::Where;
+use crate::known::heading;
+use crate::known::row_head;
+use crate::known::shown_name;
 use crate::row::row_from;
 use crate::row::whole_row;
-use script::line::part;
+use crate::tell_jump::tell_jump;
 use stepper_lines::print::byte;
 use stepper_lines::print::line;
 use stepper_lines::print::number;
 use stepper_lines::print::text;
 use stepper_lines::view::View;
-use stepper_words::heading::HEADINGS;
 use stepper_words::heading::Table;
-use stepper_words::list::item;
-use stepper_words::list::line_of;
 use stepper_words::names::NAME_WORDS;
-use stepper_words::names::place_of;
 use stepper_words::names::word_of;
 use stepper_words::place;
 use stepper_words::place::ROW_WORDS;
-use stepper_words::vocabulary::MNEMONICS;
-use stepper_words::vocabulary::NODES;
-
-// What is shown of a longer name.
-const NAME_BYTES: usize = 24;
-
-fn heading(table: Table) {
-    let headings = HEADINGS;
-    text(item(&headings, table.number() as u64));
-}
 
 // A number with a comma before its last three digits.
 fn grouped(n: usize) {
@@ -44,64 +33,6 @@ fn grouped(n: usize) {
     number((rest / 100) as u64);
     number((rest / 10 % 10) as u64);
     number((rest % 10) as u64);
-}
-
-fn shown_name(source: &[u8], names: &[u64; NAME_WORDS], view: View, n: u64) {
-    if n >= view.names as u64 {
-        byte(b'#');
-        number(n);
-        return;
-    }
-    let place = place_of(names, n as usize);
-    let whole = part(source, place.start, place.end);
-    text(part(whole, 0, NAME_BYTES));
-    if whole.len() > NAME_BYTES {
-        text(b"..");
-    }
-}
-
-fn in_brackets(word: &[u8]) {
-    if word.len() > 0 {
-        text(b" (");
-        text(word);
-        byte(b')');
-    }
-}
-
-// What a student knows a row by: its name, tag or mnemonic.
-fn known_by(
-    source: &[u8],
-    names: &[u64; NAME_WORDS],
-    view: View,
-    table: Table,
-    words: [u64; ROW_WORDS],
-) {
-    let nodes = NODES;
-    let mnemonics = MNEMONICS;
-    match table {
-        Table::Nodes => in_brackets(item(&nodes, words[0])),
-        Table::Arguments => {}
-        Table::Instructions => in_brackets(item(line_of(&mnemonics, words[0]), words[1])),
-        _ => {
-            text(b" (");
-            shown_name(source, names, view, words[0]);
-            byte(b')')
-        }
-    }
-}
-
-fn row_head(
-    source: &[u8],
-    names: &[u64; NAME_WORDS],
-    view: View,
-    row: Row,
-    words: [u64; ROW_WORDS],
-) {
-    let table = row.table;
-    heading(table);
-    text(b", row ");
-    number(row.number as u64);
-    known_by(source, names, view, table, words);
 }
 
 // A column in words.
@@ -203,7 +134,10 @@ fn tell_in_row(
 ) {
     let words = whole_row(row_from(table, row.at, ROW_WORDS));
     row_head(source, names, view, row, words);
-    tell_row(at, words);
+    match at {
+        Where::Jump(_, wrong) => tell_jump(source, names, view, wrong),
+        _ => tell_row(at, words),
+    }
 }
 
 fn tell_words(which: Table, words: usize, width: usize) {
@@ -240,7 +174,10 @@ fn tell_pair(
     number(first as u64);
     text(b" and ");
     number(second as u64);
-    text(b" have the same name (");
+    match which {
+        Table::Instructions => text(b" have the same label (@"),
+        _ => text(b" have the same name ("),
+    }
     shown_name(source, names, view, n);
     byte(b')');
 }
@@ -257,6 +194,7 @@ pub fn tell(source: &[u8], names: &[u64; NAME_WORDS], view: View, at: Where, tab
         Where::Outside(row, _) => tell_in_row(source, names, view, at, row, table),
         Where::NotOneTree(row, _, _) => tell_in_row(source, names, view, at, row, table),
         Where::Whole(row) => tell_in_row(source, names, view, at, row, table),
+        Where::Jump(row, _) => tell_in_row(source, names, view, at, row, table),
         Where::Nowhere => return,
     }
     byte(b'\n');

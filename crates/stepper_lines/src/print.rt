@@ -21,6 +21,16 @@ pub fn number(n: u64) {
     io::print_decimal(STDOUT_FILENO, n);
 }
 
+// So many of what a word names.
+pub fn counted(n: u64, word: &[u8]) {
+    number(n);
+    byte(b' ');
+    text(word);
+    if n != 1 {
+        byte(b's');
+    }
+}
+
 // A style where the output is a terminal: its number of the escape sequences, 0 for none.
 pub fn style(view: View, number: &[u8]) {
     if view.colour {

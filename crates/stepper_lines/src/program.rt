@@ -100,7 +100,7 @@ struct Window {
     end: usize,
 }
 
-fn window_at(view: View, rows: usize, done: usize) -> Window {
+fn window_at(view: View, rows: usize, current: usize) -> Window {
     if view.all {
         return Window {
             start: 0,
@@ -108,7 +108,7 @@ fn window_at(view: View, rows: usize, done: usize) -> Window {
         };
     }
     // A foreign writer's position may lie past the rows.
-    let at = least(done, rows);
+    let at = least(current, rows);
     let start = if at < ROWS_BEFORE {
         0
     } else {
@@ -150,10 +150,10 @@ pub fn program_rows(
     nodes: &[u64],
     arguments: &[u64],
     instructions: &[u64],
-    done: usize,
+    current: usize,
 ) {
     let rows = instructions.len() / INSTRUCTION_WIDTH;
-    let window = window_at(view, rows, done);
+    let window = window_at(view, rows, current);
     let mut row = window.start;
     while row < window.end {
         screen_row(
@@ -164,11 +164,11 @@ pub fn program_rows(
             arguments,
             instructions,
             row,
-            row == done,
+            row == current,
         );
         row += 1;
     }
-    if done == rows {
+    if current == rows {
         end_row(view);
     }
     rows_left_out(view, window, rows);

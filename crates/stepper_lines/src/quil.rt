@@ -52,6 +52,11 @@ fn source_operand(line: Line, source: &[u8], names: &[u64; NAME_WORDS], x: Instr
     }
 }
 
+// The label of a LABEL or of a jump.
+fn label(line: Line, source: &[u8], names: &[u64; NAME_WORDS], x: Instruction) -> Line {
+    line.text(b" @").name(source, names, x.second_name).whole()
+}
+
 pub fn complex(line: Line, real_bits: u64, imaginary_bits: u64) -> Line {
     let real = line.real(real_bits);
     if imaginary_bits == 0 {
@@ -196,7 +201,12 @@ pub fn row_text(
             let count = at_most(x.second_name, arguments.len() / ARGUMENT_WIDTH);
             argument_list(call, source, names, arguments, x.first_index, count)
         }
-        family::OTHER => headed,
+        family::OTHER | family::HALT => headed,
+        family::JUMP | family::LABEL => label(headed, source, names, x),
+        family::JUMP_WHEN | family::JUMP_UNLESS => {
+            let labelled = label(headed, source, names, x);
+            first(labelled, source, names, x)
+        }
         _ => operands(headed, source, names, x),
     }
 }

@@ -7,12 +7,12 @@ use crate::print::text;
 use crate::view::View;
 use tables::refusal::AT_END;
 use tables::refusal::BUFFER_SIZE;
+use tables::refusal::FOREIGN_POSITION;
 use tables::refusal::INDEX_PAST_LENGTH;
 use tables::refusal::JOURNAL_FULL;
 use tables::refusal::NEGATIVE_SHIFT_COUNT;
+use tables::refusal::NO_RULE;
 use tables::refusal::TABLE_SHAPE;
-use tables::refusal::TOO_MANY_CELLS;
-use tables::refusal::TYPE_ERROR;
 use tables::refusal::UNFIT_REPLY;
 
 // A line for each number; there is no refusal 0.
@@ -37,7 +37,9 @@ pub fn cause(refusal: u64) {
         a shift count is negative\n\
         the reply does not fit the CALL, or there is one and the row is no CALL\n\
         a cell that is read has no rule: its kind or its word is foreign; or a name is not declared\n\
-        the position lies past its tables, or the journal cannot be read",
+        the position lies past its tables, or the journal cannot be read\n\
+        a label stands on two LABEL rows, or a jump goes to a label that stands on none\n\
+        the condition of a jump is not declared, or not BIT",
         refusal,
     );
 }
@@ -46,11 +48,11 @@ pub fn cause(refusal: u64) {
 pub fn mender(refusal: u64) {
     match refusal {
         TABLE_SHAPE..=BUFFER_SIZE => text(b"the loader"),
-        TYPE_ERROR..=TOO_MANY_CELLS => text(b"the program's author"),
         AT_END..=JOURNAL_FULL => text(b"the student"),
         INDEX_PAST_LENGTH..=NEGATIVE_SHIFT_COUNT => text(b"the running program"),
         UNFIT_REPLY => text(b"the extern routine"),
-        _ => text(b"the foreign writer"),
+        NO_RULE..=FOREIGN_POSITION => text(b"the foreign writer"),
+        _ => text(b"the program's author"),
     }
 }
 

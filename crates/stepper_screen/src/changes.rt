@@ -38,12 +38,16 @@ pub fn changed(before: &[u64], after: &[u64], first: usize, count: u64) -> bool 
     false
 }
 
-// A step that left the cells as they were.
+// A step that left the cells as they were, or a run of several, whose steps may have changed a cell and changed it back.
 pub fn tell_unchanged(before: &[u64], memory: &[u64], old: Desk, new: Desk) {
     let first = old.position;
     let last = new.position;
-    let stepped = first.done != last.done;
-    if stepped & !changed(before, memory, 0, CELL_LIMIT as u64) {
+    if (first.done == last.done) | changed(before, memory, 0, CELL_LIMIT as u64) {
+        return;
+    }
+    if last.done > std::num::wrapping_add_usize(first.done, 1) {
+        text(b"every cell is as before the run\n");
+    } else {
         text(b"no cell changed\n");
     }
 }

@@ -14,11 +14,16 @@ fn suffice(entries: usize) {
     }
 }
 
-// Beside the entries used. With 512 rows and 2,048 entries the line has 79 columns.
+fn no_length() {
+    text(b"; no length is sure");
+}
+
+// Beside the entries used. With 512 rows and 2,048 entries the line has 77 columns.
 pub fn beside_used(enough: Enough) {
     match enough {
         Enough::Entries(entries) => suffice(entries),
-        Enough::TooMany(_) => text(b"; no length is sure"),
+        Enough::TooMany(_) => no_length(),
+        Enough::Jumps => no_length(),
         Enough::Untold => {}
     }
 }
@@ -30,6 +35,10 @@ fn entries_are(entries: usize) {
     } else {
         text(b" entries are");
     }
+}
+
+fn none_is_sure() {
+    text(b": none is sure to be long enough for every order of keys");
 }
 
 // A line of its own.
@@ -45,7 +54,13 @@ pub fn enough_line(enough: Enough) {
             number(entries as u64);
             text(b" entries, and a journal has at most ");
             number(ENTRY_LIMIT as u64);
-            text(b": none is sure to be long enough for every order of keys\n")
+            none_is_sure();
+            text(b"\n")
+        }
+        Enough::Jumps => {
+            text(b"journal: a row is a jump");
+            none_is_sure();
+            text(b"; a step uses at most 65 entries\n")
         }
         Enough::Untold => {}
     }

@@ -10,6 +10,7 @@ use stepper_desk::state::Desk;
 use stepper_desk::state::MEMORY_WORDS;
 use stepper_desk::state::TEXT_BYTES;
 use stepper_lines::print::byte;
+use stepper_lines::print::counted;
 use stepper_lines::print::number;
 use stepper_lines::print::text;
 use stepper_lines::program::program_rows;
@@ -20,18 +21,31 @@ use stepper_words::names::NAME_WORDS;
 use tables::rows::INSTRUCTION_WIDTH;
 use tables::rows::REGION_LIMIT;
 
+// The current row. Past the last one is the end.
+fn row_of(row: usize, rows: usize) {
+    if row == rows {
+        text(b"end of ");
+        counted(rows as u64, b"row");
+        return;
+    }
+    text(b"row ");
+    number(row as u64);
+    text(b" of ");
+    number(rows as u64);
+}
+
 fn head(desk: Desk, rows: usize) {
     let position = desk.position;
     let enough = desk.enough;
     text(b"-- ");
-    number(position.done as u64);
-    text(b" of ");
-    number(rows as u64);
-    text(b" rows done, ");
+    row_of(position.row, rows);
+    text(b", ");
+    counted(position.done as u64, b"step");
+    text(b", ");
     number(position.used as u64);
     text(b" of ");
     number((desk.journal / ENTRY_WIDTH) as u64);
-    text(b" journal entries used");
+    text(b" entries used");
     beside_used(enough);
     byte(b'\n');
 }
@@ -40,7 +54,7 @@ fn head(desk: Desk, rows: usize) {
 fn named(tables: &[u64; TABLE_WORDS], desk: Desk) -> [bool; REGION_LIMIT] {
     let lengths = desk.lengths;
     let position = desk.position;
-    let current = row_at(table(tables, Table::Instructions, lengths), position.row());
+    let current = row_at(table(tables, Table::Instructions, lengths), position.row);
     match current {
         Current::Row(x) => named_regions(
             table(tables, Table::Regions, lengths),
@@ -73,7 +87,7 @@ fn screen(
         table(tables, Table::Nodes, lengths),
         table(tables, Table::Arguments, lengths),
         instructions,
-        position.row(),
+        position.row,
     );
     let named = named(tables, desk);
     region_lines(

@@ -151,6 +151,14 @@ fn name(text: &[u8], names: &mut [u64; NAME_WORDS], word: Word, row: Row) -> Row
     row.knowing(n + 1).with(n as u64)
 }
 
+// A label's name, without its `@`.
+fn unmarked(word: Word) -> Word {
+    Word {
+        start: std::num::wrapping_add_usize(word.start, 1),
+        end: word.end,
+    }
+}
+
 // The word of a cell is a REAL where the cell's kind is.
 fn cell_place(kind: u64, column: usize) -> Place {
     match column {
@@ -192,6 +200,7 @@ fn add(text: &[u8], names: &mut [u64; NAME_WORDS], heading: Heading, word: Word,
         Value::One(first) => read.with(first),
         Value::Two(first, second) => read.with(first).with(second),
         Value::Name => name(text, names, word, read),
+        Value::Label => name(text, names, unmarked(word), read),
         Value::Numbered(n) => read.with_number(n),
         Value::Not(fault) => read.troubled(Trouble::Word(fault)),
     }

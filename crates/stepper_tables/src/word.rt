@@ -1,6 +1,7 @@
 // One word of a file, read by its place.
 use real_text::decimal::read_decimal;
 use script::line::byte_at;
+use script::line::part;
 use script::line::same;
 use script::number::read_number;
 use stepper_words::list::Listed;
@@ -29,11 +30,12 @@ pub enum Written {
     Not(Fault),
 }
 
-// What a word gives: one number, two of them, a name as a text, a name as a number.
+// What a word gives: one number, two of them, a name as a text, which is the whole word or a label's, after its `@`, a name as a number.
 pub enum Value {
     One(u64),
     Two(u64, u64),
     Name,
+    Label,
     Numbered(u64),
     Not(Fault),
 }
@@ -121,33 +123,46 @@ fn stranger(word: &[u8], place: Place) -> Value {
     }
 }
 
-fn name_number(word: &[u8]) -> Value {
-    let value = whole(word, Place::Name);
+fn name_number(word: &[u8], place: Place) -> Value {
+    let value = whole(word, place);
     match value {
         Value::One(n) => Value::Numbered(n),
         _ => value,
     }
 }
 
-fn name_text(word: &[u8]) -> Value {
+fn name_text(word: &[u8], place: Place) -> Value {
     if is_reserved(word) {
         return Value::Not(Fault::Reserved);
     }
     let operation = operation_of(word, true);
     match operation {
-        Operation::Of(_, _) => Value::Not(Fault::Operation(Place::Name)),
+        Operation::Of(_, _) => Value::Not(Fault::Operation(place)),
         Operation::Absent => Value::Name,
     }
 }
 
-fn name(word: &[u8]) -> Value {
+// At a name's place, or of a label.
+fn name(word: &[u8], place: Place) -> Value {
     if starts_number(word) {
-        return name_number(word);
+        return name_number(word, place);
     }
     if is_name(word) {
-        return name_text(word);
+        return name_text(word, place);
     }
-    Value::Not(Fault::Expected(Place::Name))
+    Value::Not(Fault::Expected(place))
+}
+
+// A name after `@`.
+fn label(word: &[u8]) -> Value {
+    if byte_at(word, 0) != b'@' {
+        return Value::Not(Fault::Expected(Place::Label));
+    }
+    let value = name(part(word, 1, word.len()), Place::Label);
+    match value {
+        Value::Name => Value::Label,
+        _ => value,
+    }
 }
 
 // A mnemonic in other letters than capitals is told so.
@@ -224,7 +239,8 @@ pub fn read_word(word: &[u8], place: Place) -> Value {
         return dash(place);
     }
     match place {
-        Place::Name => name(word),
+        Place::Name => name(word, place),
+        Place::Label => label(word),
         Place::Operation => operation(word),
         Place::Real => real(word),
         _ => listed(word, place),

@@ -9,9 +9,13 @@ use tables::source;
 // Words of a row as it is read, more than any table's.
 pub const ROW_WORDS: usize = 16;
 
-// A whole is an integer: a length, an index, a row, a count or an integer literal.
+// Past it there is no family.
+pub const LAST_FAMILY: u64 = family::HALT;
+
+// A label is a name, after `@`. A whole is an integer: a length, an index, a row, a count or an integer literal.
 pub enum Place {
     Name,
+    Label,
     Kind,
     ReturnKind,
     Mutability,
@@ -110,26 +114,34 @@ fn argument_place(form: u64, column: usize) -> Place {
 // A family of one operator has that word unused.
 fn operator_place(family: u64) -> Place {
     match family {
-        family::MOVE => Place::Unused,
-        family::EXCHANGE => Place::Unused,
-        family::LOAD => Place::Unused,
-        family::STORE => Place::Unused,
-        family::CALL => Place::Unused,
-        _ => Place::Operator,
+        family::ARITHMETIC => Place::Operator,
+        family::COMPARISON => Place::Operator,
+        family::BINARY_LOGIC => Place::Operator,
+        family::UNARY => Place::Operator,
+        family::FRAME => Place::Operator,
+        family::OTHER => Place::Operator,
+        _ => Place::Unused,
     }
 }
 
-// The first operand's two words: a cell, a STORE's region, a frame's nodes, or a CALL's extern and first argument.
+// The first operand's two words: a cell, such as a jump's condition, a STORE's region, a frame's nodes, a CALL's extern and first argument, or nothing.
 fn first_place(family: u64, column: usize) -> Place {
     match family {
         family::STORE => either(column, 2, Place::Name, Place::Unused),
         family::FRAME => either(column, 2, Place::Whole, Place::Whole),
         family::OTHER => Place::Unused,
+        family::JUMP => Place::Unused,
+        family::LABEL => Place::Unused,
+        family::HALT => Place::Unused,
         _ => reference_place(column, 2),
     }
 }
 
-// The second operand's two words: a cell, a LOAD's region, a CALL's argument count, or nothing.
+fn label_place(column: usize) -> Place {
+    either(column, 4, Place::Label, Place::Unused)
+}
+
+// The second operand's two words: a cell, a LOAD's region, a CALL's argument count, a label, or nothing.
 fn second_place(family: u64, column: usize) -> Place {
     match family {
         family::COMPARISON => reference_place(column, 4),
@@ -137,6 +149,10 @@ fn second_place(family: u64, column: usize) -> Place {
         family::LOAD => either(column, 4, Place::Name, Place::Unused),
         family::STORE => reference_place(column, 4),
         family::CALL => either(column, 4, Place::Whole, Place::Unused),
+        family::JUMP => label_place(column),
+        family::JUMP_WHEN => label_place(column),
+        family::JUMP_UNLESS => label_place(column),
+        family::LABEL => label_place(column),
         _ => Place::Unused,
     }
 }
@@ -155,7 +171,7 @@ fn instruction_place(family: u64, form: u64, column: usize) -> Place {
     if column == 0 {
         return Place::Operation;
     }
-    if family > family::OTHER {
+    if family > LAST_FAMILY {
         return Place::Unused;
     }
     match column {

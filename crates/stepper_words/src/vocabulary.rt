@@ -3,10 +3,10 @@ use crate::heading::HEADINGS;
 use crate::list::Listed;
 use crate::list::find;
 use crate::list::index_of;
+use crate::place::LAST_FAMILY;
 use crate::place::Place;
 use script::line::line_at;
 use script::line::part;
-use tables::family;
 use tables::parameter_shape;
 
 pub const KINDS: [u8; 22] = *b"BIT INTEGER OCTET REAL";
@@ -24,8 +24,8 @@ const ARGUMENTS: [u8; 30] = *b"identifier reference immediate";
 const SOURCES: [u8; 27] = *b"integer real reference none";
 
 // The operators, a line for each family: a family's number is its line's place, an operator's its word's.
-pub const MNEMONICS: [u8; 165] =
-    *b"ADD SUB DIV MUL\nEQ GE GT LE LT\nAND IOR XOR SHL SHR ASHR\nNEG NOT\nMOVE\nEXCHANGE\nLOAD\nSTORE\nSET-FREQUENCY SET-PHASE SET-SCALE SHIFT-FREQUENCY SHIFT-PHASE\nCALL\nNOP OTHER";
+pub const MNEMONICS: [u8; 203] =
+    *b"ADD SUB DIV MUL\nEQ GE GT LE LT\nAND IOR XOR SHL SHR ASHR\nNEG NOT\nMOVE\nEXCHANGE\nLOAD\nSTORE\nSET-FREQUENCY SET-PHASE SET-SCALE SHIFT-FREQUENCY SHIFT-PHASE\nCALL\nNOP OTHER\nJUMP\nJUMP-WHEN\nJUMP-UNLESS\nLABEL\nHALT";
 
 // A family and its operator.
 pub enum Operation {
@@ -36,7 +36,7 @@ pub enum Operation {
 fn operation_in(mnemonics: &[u8], word: &[u8], any_case: bool) -> Operation {
     let mut at = 0;
     let mut family = 0;
-    while family <= family::OTHER {
+    while family <= LAST_FAMILY {
         let line = line_at(mnemonics, at);
         let listed = find(part(mnemonics, line.start, line.end), word, any_case);
         if let Listed::At(operator) = listed {

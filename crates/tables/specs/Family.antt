@@ -1,4 +1,4 @@
--- 01, "Families": the number of each, named as the definitions cite them.
+-- 01, "Families", and 02, P4, "families 11 to 15": the number of each, named as the definitions cite them.
 use Prim.Native.Nat.{ℕ}
 
 abbrev pub arithmetic : ℕ
@@ -37,3 +37,19 @@ call = 9
 -- "operator 0 is NOP, 1 any other instruction"
 abbrev pub other : ℕ
 other = 10
+
+-- 02, P4: "JUMP, JUMP-WHEN, JUMP-UNLESS, LABEL and HALT, families 11 to 15. First name and index are the condition, second name the label"
+abbrev pub jump : ℕ
+jump = 11
+
+abbrev pub jumpWhen : ℕ
+jumpWhen = 12
+
+abbrev pub jumpUnless : ℕ
+jumpUnless = 13
+
+abbrev pub label : ℕ
+label = 14
+
+abbrev pub halt : ℕ
+halt = 15

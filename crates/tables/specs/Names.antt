@@ -21,6 +21,7 @@ pub record Operands : Type 0 where
 abbrev pub operands : Use → Use → Operands
 operands first second = record { first = first; second = second }
 
+-- 02, P4: "First name and index are the condition, second name the label": a label is no name of a region.
 -- "1 comparison (second = lhs)", "6 load (second = source region ..)", "7 store (first = destination region, second = offset)"
 abbrev pub operandsByFamily : List (ℕ × Operands)
 operandsByFamily =
@@ -32,6 +33,8 @@ operandsByFamily =
     ∷ (family.exchange, operands reference reference)
     ∷ (family.load, operands reference region)
     ∷ (family.store, operands region reference)
+    ∷ (family.jumpWhen, operands reference unused)
+    ∷ (family.jumpUnless, operands reference unused)
     ∷ []
 
 -- the other families name no region by an operand; a frame's names are in its expression, a CALL's among its arguments

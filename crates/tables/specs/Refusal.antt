@@ -1,4 +1,4 @@
--- 01, "Turned down, by cause": the number of each refusal.
+-- 01, "Turned down, by cause", and the requests of 02: the number of each refusal.
 use Prim.Native.Nat.{ℕ}
 
 -- Loader.
@@ -81,3 +81,12 @@ noRule = 18
 -- position past its tables, or journal unreadable
 abbrev pub foreignPosition : ℕ
 foreignPosition = 19
+
+-- Program's author, by 02, P4.
+-- a label twice or a target absent anywhere in the program
+abbrev pub unfitLabels : ℕ
+unfitLabels = 20
+
+-- a condition undeclared or not BIT
+abbrev pub conditionNotBit : ℕ
+conditionNotBit = 21

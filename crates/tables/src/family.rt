@@ -20,3 +20,13 @@ pub const FRAME: u64 = 8;
 pub const CALL: u64 = 9;
 
 pub const OTHER: u64 = 10;
+
+pub const JUMP: u64 = 11;
+
+pub const JUMP_WHEN: u64 = 12;
+
+pub const JUMP_UNLESS: u64 = 13;
+
+pub const LABEL: u64 = 14;
+
+pub const HALT: u64 = 15;

@@ -1,4 +1,4 @@
-// 01's refusals by number, as specs/Refusal.antt names them.
+// 01's and 02's refusals by number, as specs/Refusal.antt names them.
 
 // The loader's.
 pub const TABLE_SHAPE: u64 = 1;
@@ -43,3 +43,8 @@ pub const UNFIT_REPLY: u64 = 17;
 pub const NO_RULE: u64 = 18;
 
 pub const FOREIGN_POSITION: u64 = 19;
+
+// The program's author's, by 02.
+pub const UNFIT_LABELS: u64 = 20;
+
+pub const CONDITION_NOT_BIT: u64 = 21;

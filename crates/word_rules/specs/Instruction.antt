@@ -36,10 +36,24 @@ operatorsByFamily =
     ∷ (family.other, upTo operator.anyOther)
     ∷ []
 
+-- 02, P4: families 11 to 15 have none
+abbrev pub operatorsByJump : List (ℕ × ℕ)
+operatorsByJump =
+    (family.jump, upTo unused)
+    ∷ (family.jumpWhen, upTo unused)
+    ∷ (family.jumpUnless, upTo unused)
+    ∷ (family.label, upTo unused)
+    ∷ (family.halt, upTo unused)
+    ∷ []
+
 -- none past the last family, so that such a number is refused
-unfoldable pub operatorsOf : ℕ → ℕ
+unfoldable pub jumpOperatorsOf : ℕ → ℕ
 unfolding caseOf
-operatorsOf family = caseOf family operatorsByFamily 0
+jumpOperatorsOf family = caseOf family operatorsByJump 0
+
+unfoldable pub operatorsOf : ℕ → ℕ
+unfolding caseOf jumpOperatorsOf
+operatorsOf family = caseOf family operatorsByFamily (jumpOperatorsOf family)
 
 -- "source form (0 integer literal, 1 real literal, 2 reference, 3 none: always and only in families 3, 5, 8, 9, 10)";
 -- "2 binary logic (no real literal)"; "6 load (.. source = offset reference)"
@@ -60,6 +74,7 @@ formsByFamily form =
     ∷ (family.other, none)
     ∷ []
 
+-- 02, P4: "source form 3"
 unfoldable pub formAllowed : ℕ → ℕ → Bool
 unfolding caseOf
 formAllowed family form = caseOf family (formsByFamily form) (eqb form source.none)
@@ -96,15 +111,35 @@ operandWordsByFamily nodes arguments x =
     ∷ (family.other, eqb (x .«first_name») 0 && (eqb (x .«first_index») 0 && second-unused))
     ∷ []
 
-unfoldable pub operandsAllowed : List ℕ → ℕ → Instruction → Bool
+-- 02, P4: "First name and index are the condition, second name the label"
+abbrev pub operandWordsByJump : Instruction → List (ℕ × Bool)
+operandWordsByJump x =
+    let no-condition = eqb (x .«first_name») 0 && eqb (x .«first_index») 0 in
+    let no-index = eqb (x .«second_index») 0 in
+    (family.jump, no-condition && no-index)
+    ∷ (family.jumpWhen, no-index)
+    ∷ (family.jumpUnless, no-index)
+    ∷ (family.label, no-condition && no-index)
+    ∷ (family.halt, no-condition && (eqb (x .«second_name») 0 && no-index))
+    ∷ []
+
+unfoldable pub jumpOperandsAllowed : Instruction → Bool
 unfolding caseOf
-operandsAllowed nodes arguments x = caseOf (x .family) (operandWordsByFamily nodes arguments x) false
+jumpOperandsAllowed x = caseOf (x .family) (operandWordsByJump x) false
+
+unfoldable pub operandsAllowed : List ℕ → ℕ → Instruction → Bool
+unfolding caseOf jumpOperandsAllowed
+operandsAllowed nodes arguments x = caseOf (x .family) (operandWordsByFamily nodes arguments x) (jumpOperandsAllowed x)
 
 unfoldable pub instructionAllowed : List ℕ → ℕ → Instruction → Bool
 instructionAllowed nodes arguments x =
     ltb (x .operator) (operatorsOf (x .family))
     && (formAllowed (x .family) (x .«source_form»)
     && (sourceAllowed x && operandsAllowed nodes arguments x))
+
+-- of families 11 to 15
+unfoldable pub jumpAllowed : Instruction → Bool
+jumpAllowed x = ltb (x .operator) (jumpOperatorsOf (x .family)) && (eqb (x .«source_form») source.none && (sourceAllowed x && jumpOperandsAllowed x))
 
 unfoldable pub instructionsAllowed : List ℕ → ℕ → List ℕ → Bool
 instructionsAllowed nodes arguments xs = every (λ k. instructionAllowed nodes arguments (instructionAt xs k)) (instructionRows xs)

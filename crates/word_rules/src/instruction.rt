@@ -8,7 +8,7 @@ ghost use Rattle.tables.specs.Rows.{nodeRows, nodeLimit};
 ghost use Rattle.tables.specs.Ends.{EndsFrom};
 ghost use Rattle.tables.specs.Source as source;
 ghost use Rattle.word_rules.specs.Allowed.{nodesAllowed};
-ghost use Rattle.word_rules.specs.Instruction.{upTo, sourceAllowed, instructionAllowed, instructionsAllowed};
+ghost use Rattle.word_rules.specs.Instruction.{upTo, sourceAllowed, jumpAllowed, instructionAllowed, instructionsAllowed};
 use crate::nodes::nodes_end;
 use tables::ends::ends_with;
 use tables::family;
@@ -66,6 +66,24 @@ fn no_source(x: Instruction, operands: bool) -> bool
     (x.source_form == source::NONE) & (((x.source_first == 0) & (x.source_second == 0)) & operands)
 }
 
+// Families 11 to 15: no operator and no source.
+fn jump_allowed(x: Instruction) -> bool
+    ensures { λ r. ⌜ r ≡ jumpAllowed x ⌝ }
+{
+    let family = x.family;
+    let no_condition = (x.first_name == 0) & (x.first_index == 0);
+    let no_index = x.second_index == 0;
+    match family {
+        family::JUMP => up_to(UNUSED, x.operator) & no_source(x, no_condition & no_index),
+        family::JUMP_WHEN => up_to(UNUSED, x.operator) & no_source(x, no_index),
+        family::JUMP_UNLESS => up_to(UNUSED, x.operator) & no_source(x, no_index),
+        family::LABEL => up_to(UNUSED, x.operator) & no_source(x, no_condition & no_index),
+        family::HALT => up_to(UNUSED, x.operator)
+            & no_source(x, no_condition & ((x.second_name == 0) & no_index)),
+        _ => false,
+    }
+}
+
 // The words of a row by its family: its operators, its source, its operands. `ends` has where each node's tree ends; `arguments` is the number of argument rows.
 fn instruction_allowed(nodes: &[u64], ends: &[u16], arguments: usize, x: Instruction) -> bool
     requires { ⌜ EndsFrom (now nodes) (now ends) 0 ⌝ }
@@ -98,7 +116,7 @@ fn instruction_allowed(nodes: &[u64], ends: &[u16], arguments: usize, x: Instruc
                 x,
                 (x.first_name == 0) & ((x.first_index == 0) & second_unused),
             ),
-        _ => false,
+        _ => jump_allowed(x),
     }
 }
 

@@ -1,5 +1,5 @@
 //! One-row programs: every family without trees and arguments, operator, source form, and kind of every operand,
-//! undeclared too; operands that share a name; names around 0 and 2^64-1.
+//! undeclared too; operands that share a name; names around 0 and 2^64-1. Jumps, LABEL and HALT also among other rows.
 use super::{CHOICES, UNDECLARED};
 use crate::program::{Program, Row};
 
@@ -47,6 +47,42 @@ pub fn each(visit: &mut dyn FnMut(Program)) {
     for operator in 0..2 {
         visit(Program { rows: vec![Row::Plain([10, operator, 0, 0, 0, 0, 3, 0, 0])], ..Program::default() });
     }
+    each_flow(visit);
+}
+
+/// Families 11 to 15: the condition of each kind and undeclared, its label on no LABEL row, on one or on two; alone,
+/// and with a row after it that passes or fails.
+fn each_flow(visit: &mut dyn FnMut(Program)) {
+    for [condition, label, other] in NAMES {
+        for (family, &kind) in (11..16).flat_map(|family| CHOICES.iter().map(move |kind| (family, kind))) {
+            // A label may be the condition's number.
+            for (label, index) in [(label, INDICES[0]), (label, INDICES[1]), (condition, INDICES[0])] {
+                let row = flow(family, [condition, index], label);
+                for (labels, after) in (0..9).map(|turn| (turn / 3, turn as u64 % 3)) {
+                    visit(flow_program(row, (condition, kind), [label, other], labels, after));
+                }
+            }
+        }
+    }
+}
+
+/// Words that the family does not use are 0.
+fn flow(family: u64, [condition, index]: [u64; 2], label: u64) -> [u64; 9] {
+    let [condition, index] = if matches!(family, 12 | 13) { [condition, index] } else { [0, 0] };
+    let label = if family == 15 { 0 } else { label };
+    [family, 0, condition, index, label, 0, 3, 0, 0]
+}
+
+/// The row, so many LABEL rows before it, and after it none, a row that passes or one that fails.
+fn flow_program(row: [u64; 9], operand: (u64, u64), [label, other]: [u64; 2], labels: usize, after: u64) -> Program {
+    let mut program = program(&[operand], false, row);
+    program.rows.splice(0..0, vec![Row::Plain(flow(14, [0, 0], label)); labels]);
+    if after > 0 {
+        // NEG of an INTEGER or an OCTET.
+        program.regions.push([other, after, 1]);
+        program.rows.push(Row::Plain([3, 0, other, 0, 0, 0, 3, 0, 0]));
+    }
+    program
 }
 
 /// The row under each way of naming its operands: three stocks of names, and operands of one choice with one name.

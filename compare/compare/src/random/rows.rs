@@ -22,11 +22,23 @@ pub struct Rows<'a> {
 
 impl Rows<'_> {
     pub fn row(&mut self) -> Row {
-        match self.random.below(14) {
+        match self.random.below(16) {
             family @ 0..=7 => Row::Plain(self.plain(family)),
             8..=9 => Row::Frame { operator: self.random.below(5), nodes: self.nodes() },
             10..=12 => self.call(),
-            _ => Row::Plain([10, self.random.below(2), 0, 0, 0, 0, 3, 0, 0]),
+            13 => Row::Plain([10, self.random.below(2), 0, 0, 0, 0, 3, 0, 0]),
+            _ => Row::Plain(self.flow()),
+        }
+    }
+
+    /// A jump, LABEL or HALT. What its label is has no say in any answer here.
+    fn flow(&mut self) -> [u64; 9] {
+        let (label, index) = (self.random.pick(&NAMES), word(self.random));
+        match self.random.below(5) {
+            0 => [11, 0, 0, 0, label, 0, 3, 0, 0],
+            1 => [14, 0, 0, 0, label, 0, 3, 0, 0],
+            2 => [15, 0, 0, 0, 0, 0, 3, 0, 0],
+            family => [9 + family, 0, self.name(&[0]), index, label, 0, 3, 0, 0],
         }
     }
 

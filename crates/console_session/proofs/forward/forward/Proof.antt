@@ -46,17 +46,17 @@ enum-known-prepared c = search needs
 enum-known-prepared-2 : tie.Need-enum-known-prepared-2
 enum-known-prepared-2 c = search needs
 
-mul-step-row : tie.Need-mul-step-row
-mul-step-row c = omega (arith, facts (c .before) .few)
+mul-step-cells : tie.Need-mul-step-cells
+mul-step-cells c = omega (arith, facts (c .before) .few)
 
-slice-relend-prefix-step-row : tie.Need-slice-relend-prefix-step-row
-slice-relend-prefix-step-row c = facts (c .before) .room
+slice-relend-prefix-step-cells : tie.Need-slice-relend-prefix-step-cells
+slice-relend-prefix-step-cells c = facts (c .before) .room
 
-slice-aggregate-step-row : tie.Need-slice-aggregate-step-row
-slice-aggregate-step-row c = let at = c .before .before in sym (length-take-le (cellWidth * at .prepared2 .given .0 .0) (entry (looked at) .args .memory .now) (facts at .room))
+slice-aggregate-step-cells : tie.Need-slice-aggregate-step-cells
+slice-aggregate-step-cells c = let at = c .before .before in sym (length-take-le (cellWidth * at .prepared2 .given .0 .0) (entry (looked at) .args .memory .now) (facts at .room))
 
-step-row-requires : tie.Need-step-row-requires
-step-row-requires c κs = ready-steppable (ready _ _ _ (facts (c .before .before .before)))
+step-cells-requires : tie.Need-step-cells-requires
+step-cells-requires c κs = ready-steppable (ready _ _ _ (facts (c .before .before .before)))
 
 returns : tie.Need-returns
 returns c =
@@ -75,7 +75,7 @@ returns-2 c =
     let after = c .before .before .before .before in
     let at = after .before .before .before .before in
     let s = entry (looked at) in
-    forward-on (tablesAt s) (s .args .memory .now) (s .args .journal .now) (s .args .position) (s .args .reply .now) (looks (looked at) (at .prepared2 .given .1)) (after .step-row .ensures (s .args .nodes .now))
+    forward-on (tablesAt s) (s .args .memory .now) (s .args .journal .now) (s .args .position) (s .args .reply .now) (looks (looked at) (at .prepared2 .given .1)) (after .step-cells .ensures (s .args .nodes .now))
 
 pub forward-spec : {M : Type 1} → statement M
 forward-spec =
@@ -84,10 +84,10 @@ forward-spec =
     prepare-requires
     enum-known-prepared
     enum-known-prepared-2
-    mul-step-row
-    slice-relend-prefix-step-row
-    slice-aggregate-step-row
-    step-row-requires
+    mul-step-cells
+    slice-relend-prefix-step-cells
+    slice-aggregate-step-cells
+    step-cells-requires
     returns
     same-length
     same-length-2

@@ -24,7 +24,7 @@ returns : tie.Need-returns
 returns c =
     let made = c .before .before .before .before .before .before .before .before .write-cell in
     let written = writing-first _ _ _ _ [] _ _ (made .ensures .0) (made .ensures .1) in
-    writing-end _ _ _ _ _ _ _ _ written _ _ 1 refl refl refl (c .before .before .close .ensures)
+    writing-end _ _ _ _ _ _ _ _ written _ _ _ 1 refl refl refl (c .before .before .close .ensures)
 
 pub write-one-spec : {M : Type 1} → statement M
 write-one-spec =

@@ -32,7 +32,7 @@ returns c =
     let second = c .before .before .before .before .before .before .before .before .write-cell2 in
     let one = writing-first _ _ _ _ (_ ∷ []) _ _ (first .ensures .0) (first .ensures .1) in
     let two = writing-turn _ _ _ _ _ _ _ _ one _ _ _ [] refl (second .ensures .0) (second .ensures .1) in
-    writing-end _ _ _ _ _ _ _ _ two _ _ 2 refl refl refl (c .before .before .close .ensures)
+    writing-end _ _ _ _ _ _ _ _ two _ _ _ 2 refl refl refl (c .before .before .close .ensures)
 
 pub write-two-spec : {M : Type 1} → statement M
 write-two-spec =

@@ -6,7 +6,7 @@ use Rattle.machine.specs.Families.{noWrites, families, familyOf}
 use Rattle.tables.specs.Cases.{caseOf}
 use Rattle.tables.specs.Outcome.{Outcome}
 use Rattle.tables.proofs.Cases.{other-arm, at-key}
-use Rattle.machine.proofs.Reaches.{arithmetic-reach, comparison-reach, logic-reach, unary-reach, move-reach, exchange-reach, load-reach, store-reach}
+use Rattle.machine.proofs.Reaches.{arithmetic-reach, comparison-reach, logic-reach, unary-reach, move-reach, exchange-reach, load-reach, store-reach, when-reach, unless-reach}
 use Rattle.machine.proofs.family.family_outcome.Statement.{statement}
 use Rattle.machine.proofs.family.family_outcome.Tie as tie
 
@@ -36,6 +36,12 @@ load-requires c κs = load-reach (c .before .before .before .pre) (c .match .key
 
 store-requires : tie.Need-store-requires
 store-requires c κs = store-reach (c .before .before .before .pre) (c .match .keys8)
+
+conditional-requires : tie.Need-conditional-requires
+conditional-requires c κs = when-reach (c .before .before .before .pre) (c .match .keys9)
+
+conditional-requires-2 : tie.Need-conditional-requires-2
+conditional-requires-2 c κs = unless-reach (c .before .before .before .pre) (c .match .keys10)
 
 returns : tie.Need-returns
 unfolding familyOf caseOf
@@ -70,8 +76,16 @@ unfolding familyOf caseOf
 returns-8 c = c .store .ensures ∙ at-key (all (c .before .before .before .before)) noWrites (c .before .match .keys8)
 
 returns-9 : tie.Need-returns-9
+unfolding familyOf caseOf
+returns-9 c = c .conditional .ensures ∙ at-key (all (c .before .before .before .before)) noWrites (c .before .match .keys9)
+
+returns-10 : tie.Need-returns-10
+unfolding familyOf caseOf
+returns-10 c = c .conditional2 .ensures ∙ at-key (all (c .before .before .before .before)) noWrites (c .before .match .keys10)
+
+returns-11 : tie.Need-returns-11
 unfolding familyOf
-returns-9 c = other-arm (all (c .before .before .before)) noWrites _ (c .match .rest)
+returns-11 c = other-arm (all (c .before .before .before)) noWrites _ (c .match .rest)
 
 pub family-outcome-spec : {M : Type 1} → statement M
 family-outcome-spec =
@@ -85,6 +99,8 @@ family-outcome-spec =
     exchange-requires
     load-requires
     store-requires
+    conditional-requires
+    conditional-requires-2
     returns
     returns-2
     returns-3
@@ -93,4 +109,6 @@ family-outcome-spec =
     returns-6
     returns-7
     returns-8
-    returns-9)
+    returns-9
+    returns-10
+    returns-11)

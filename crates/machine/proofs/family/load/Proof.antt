@@ -1,7 +1,7 @@
 use mathlib.Core.Path.{_≡_}
 use borrow.Author.Needs.{needs}
 use Rattle.tables.specs.Outcome.{ok, _>>=_, seen}
-use Rattle.operands.specs.Cells.{offsetOf, readOutcome, offsetOutcome}
+use Rattle.operands.specs.Cells.{offsetOf, readOutcome, readAsOutcome}
 use Rattle.operands.specs.Address.{indexedOf, indexedOutcome}
 use Rattle.operands.proofs.AddressLaws.{indexed-within}
 use Rattle.operands.proofs.Reaches.{in-cells}
@@ -18,15 +18,15 @@ abbrev offset-of : tie.After-c → tie.After-i
 offset-of c = c .before .before .before .before
 
 offset : (i : tie.After-i) → let a = entry i .args in offsetOf (a .cells .now) (a .a .source) ≡ ok (i .i .given .0 .0)
-offset i = seen offsetOutcome (i .before .before .read-offset .ensures) (i .i .given .1)
+offset i = seen readAsOutcome (i .before .before .read-as .ensures) (i .i .given .1)
 
 reached : (c : tie.After-c) → let i = offset-of c in let a = entry i .args in indexedOf (a .regions .now) (a .n .second) (i .i .given .0 .0) ≡ ok (c .c .given .0 .0)
 reached c = seen indexedOutcome (c .before .before .index-cell .ensures) (c .c .given .1)
 
 -- ---- the needs
 
-read-offset-requires : tie.Need-read-offset-requires
-read-offset-requires c κs = search needs
+read-as-requires : tie.Need-read-as-requires
+read-as-requires c κs = search needs
 
 enum-known-i : tie.Need-enum-known-i
 enum-known-i c = search needs
@@ -36,7 +36,7 @@ enum-told c = search needs
 
 returns : tie.Need-returns
 unfolding loadOf _>>=_
-returns c = rw (seen offsetOutcome (c .before .before .read-offset .ensures) (c .enum-told .given .1))
+returns c = rw (seen readAsOutcome (c .before .before .read-as .ensures) (c .enum-told .given .1))
 
 index-cell-requires : tie.Need-index-cell-requires
 index-cell-requires c κs = let pre = entry (c .before) .pre in (pre .region, pre .layout .laid)
@@ -80,7 +80,7 @@ pub load-spec : {M : Type 1} → statement M
 load-spec =
     tie.close
     (tie.spec
-    read-offset-requires
+    read-as-requires
     enum-known-i
     enum-told
     returns

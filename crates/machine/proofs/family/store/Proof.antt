@@ -1,7 +1,7 @@
 use mathlib.Core.Path.{_≡_, sym}
 use borrow.Author.Needs.{needs}
 use Rattle.tables.specs.Outcome.{ok, seen}
-use Rattle.operands.specs.Cells.{sourceOf, offsetOf, readOutcome, offsetOutcome}
+use Rattle.operands.specs.Cells.{sourceOf, offsetOf, readOutcome, readAsOutcome}
 use Rattle.operands.specs.Address.{indexedOf, indexedOutcome}
 use Rattle.operands.proofs.AddressLaws.{indexed-within}
 use Rattle.operands.proofs.Reaches.{in-cells}
@@ -22,7 +22,7 @@ abbrev source-of : tie.After-c → tie.After-s
 source-of c = c .before .before .before .before
 
 offset : (i : tie.After-i) → let a = entry i .args in offsetOf (a .cells .now) (a .a .second) ≡ ok (i .i .given .0 .0)
-offset i = seen offsetOutcome (i .before .before .read-offset .ensures) (i .i .given .1)
+offset i = seen readAsOutcome (i .before .before .read-as .ensures) (i .i .given .1)
 
 source : (s : tie.After-s) → let a = entry (offset-of s) .args in sourceOf (a .cells .now) (a .x) (a .a .source) ≡ ok (s .s .given .0 .0)
 source s = seen readOutcome (s .before .before .read-source .ensures) (s .s .given .1)
@@ -33,8 +33,8 @@ reached c = seen indexedOutcome (c .before .before .index-cell .ensures) (c .c .
 
 -- ---- the needs
 
-read-offset-requires : tie.Need-read-offset-requires
-read-offset-requires c κs = search needs
+read-as-requires : tie.Need-read-as-requires
+read-as-requires c κs = search needs
 
 enum-known-i : tie.Need-enum-known-i
 enum-known-i c = search needs
@@ -44,7 +44,7 @@ enum-told c = search needs
 
 returns : tie.Need-returns
 unfolding storeOf
-returns c = looked (no-first (seen offsetOutcome (c .before .before .read-offset .ensures) (c .enum-told .given .1)))
+returns c = looked (no-first (seen readAsOutcome (c .before .before .read-as .ensures) (c .enum-told .given .1)))
 
 read-source-requires : tie.Need-read-source-requires
 read-source-requires c κs = entry (c .before) .pre .source
@@ -91,7 +91,7 @@ pub store-spec : {M : Type 1} → statement M
 store-spec =
     tie.close
     (tie.spec
-    read-offset-requires
+    read-as-requires
     enum-known-i
     enum-told
     returns

@@ -5,10 +5,13 @@ use lib.ListN.{length}
 use lib.Dec.{ltb}
 use borrow.Author.Tests.{not-true, not-false, lt-ltb, le-ltb}
 use Rattle.tables.specs.Outcome.{_>>_, need}
+use Rattle.tables.specs.Rows.{instructionRows}
+use Rattle.journal.specs.Entries.{entriesAt}
+use Rattle.journal.specs.Restore.{present}
 use Rattle.session.specs.Prepare.{entriesOf}
 use Rattle.session.specs.Position.{positionFits}
-use Rattle.session.proofs.PositionLaws.{fits-used}
-use Rattle.session_back.specs.Back.{lastChanges, journalLook}
+use Rattle.session.proofs.PositionLaws as position
+use Rattle.session_back.specs.Back.{lastChanges, lastRow, firstEntry, journalLook}
 use Rattle.session_back.specs.TakeBack.{takeBackLook}
 use borrow.Author.Needs.{needs}
 use Rattle.session_back.proofs.take_back.look_back.Statement.{statement}
@@ -37,6 +40,16 @@ some-used c = lt-ltb 0 (entry (first c .before) .args .p .used) (omega arith)
 count-below : (c : tie.Else4) → ltb (lastChanges (entry (first (third c) .before) .args .journal .now) (entry (first (third c) .before) .args .p)) (entry (first (third c) .before) .args .p .used) ≡ true
 count-below c = lt-ltb _ _ (rw (c .before .changes-at .ensures) at (c .if4 .left))
 
+abbrev fourth : tie.Else5 → tie.Else4
+fourth c = c .before .before
+
+counted : (c : tie.Else5) → let s = entry (first (third (fourth c)) .before) .args in fourth c .before .changes-at .result ≡ lastChanges (s .journal .now) (s .p)
+counted c = fourth c .before .changes-at .ensures
+
+entries-there : (c : tie.Else5) → let s = entry (first (third (fourth c)) .before) .args in let n = lastChanges (s .journal .now) (s .p) in
+    present (s .cells) (entriesAt (s .journal .now) (firstEntry (s .p) n) n) ≡ true
+entries-there c = rw (counted c) at (sym (c .before .readable .ensures) ∙ not-false _ (c .if5 .left))
+
 -- ---- the needs
 
 position-fits-requires : tie.Need-position-fits-requires
@@ -58,7 +71,7 @@ sub-changes-at : tie.Need-sub-changes-at
 sub-changes-at c = search needs
 
 changes-at-requires : tie.Need-changes-at-requires
-changes-at-requires c κs = omega (arith, fits-used _ _ (entry (first c .before) .args .p) (fits (first c)))
+changes-at-requires c κs = omega (arith, position.fits _ _ (entry (first c .before) .args .p) (fits (first c)) .used)
 
 returns-4 : tie.Need-returns-4
 unfolding takeBackLook journalLook _>>_ need
@@ -74,7 +87,7 @@ sub-readable : tie.Need-sub-readable
 sub-readable c = search needs
 
 readable-requires : tie.Need-readable-requires
-readable-requires c κs = omega (arith, fits-used _ _ (entry (first (third c) .before) .args .p) (fits (first (third c))))
+readable-requires c κs = omega (arith, position.fits _ _ (entry (first (third c) .before) .args .p) (fits (first (third c))) .used)
 
 returns-5 : tie.Need-returns-5
 unfolding takeBackLook journalLook _>>_ need
@@ -82,12 +95,40 @@ returns-5 c =
     let at = third (c .before .before) in
     rw (fits (first at), some-done (at .before), some-used at, count-below (c .before .before), rw (c .before .before .before .changes-at .ensures) at (sym (c .before .readable .ensures) ∙ not-true _ (c .if5 .taken)))
 
+sub-row-left-at : tie.Need-sub-row-left-at
+sub-row-left-at c = search needs
+
+row-left-at-requires : tie.Need-row-left-at-requires
+row-left-at-requires c κs = let at = first (third (c .before .before)) in omega (arith, position.fits _ _ (entry (at .before) .args .p) (fits at) .used)
+
 returns-6 : tie.Need-returns-6
 unfolding takeBackLook journalLook _>>_ need
 returns-6 c =
-    let at = third (c .before .before) in
-    let count = c .before .before .before .changes-at .ensures in
-    rw (fits (first at), some-done (at .before), some-used at, count-below (c .before .before), rw count at (sym (c .before .readable .ensures) ∙ not-false _ (c .if5 .left)), count)
+    let at = third (fourth (c .before .before)) in
+    let s = entry (first at .before) .args in
+    rw (
+      fits (first at),
+      some-done (at .before),
+      some-used at,
+      count-below (fourth (c .before .before)),
+      entries-there (c .before .before),
+      le-ltb (lastRow (s .journal .now) (s .p)) (instructionRows (s .instructions .now)) (rw (c .before .row-left-at .ensures) at (c .if6 .taken)),
+    )
+
+returns-7 : tie.Need-returns-7
+unfolding takeBackLook journalLook _>>_ need
+returns-7 c =
+    let at = third (fourth (c .before .before)) in
+    let s = entry (first at .before) .args in
+    rw (
+      fits (first at),
+      some-done (at .before),
+      some-used at,
+      count-below (fourth (c .before .before)),
+      entries-there (c .before .before),
+      lt-ltb (lastRow (s .journal .now) (s .p)) (instructionRows (s .instructions .now)) (rw (c .before .row-left-at .ensures) at (c .if6 .left)),
+      counted (c .before .before),
+    )
 
 pub look-back-spec : {M : Type 1} → statement M
 look-back-spec =
@@ -104,4 +145,7 @@ look-back-spec =
     sub-readable
     readable-requires
     returns-5
-    returns-6)
+    sub-row-left-at
+    row-left-at-requires
+    returns-6
+    returns-7)

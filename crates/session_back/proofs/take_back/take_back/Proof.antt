@@ -48,8 +48,14 @@ sub-undo c = omega (arith, takes (c .before .before) .before)
 undo-requires : tie.Need-undo-requires
 undo-requires c κs = let s = takes (c .before .before) in (omega (arith, s .used, s .before), s .readable)
 
+sub-row-left-at : tie.Need-sub-row-left-at
+sub-row-left-at c = omega (arith, takes (undoing c) .before)
+
+row-left-at-requires : tie.Need-row-left-at-requires
+row-left-at-requires c κs = let s = takes (undoing c) in omega (arith, s .used, s .before)
+
 retreat-requires : tie.Need-retreat-requires
-retreat-requires c κs = let s = takes (undoing c) in (s .some, s .before)
+retreat-requires c κs = let s = takes (undoing (c .before)) in (s .some, s .before)
 
 returns : tie.Need-returns
 unfolding takenBack
@@ -59,7 +65,9 @@ same-length : tie.Need-same-length
 same-length c = search needs
 
 returns-2 : tie.Need-returns-2
-returns-2 c = took-back _ _ _ (given (undoing (c .before))) (c .retreat .ensures) (c .before .before .before .undo .ensures)
+returns-2 c =
+    took-back _ _ _ (given (undoing (c .before .before))) (c .before .row-left-at .ensures) (c .retreat .ensures)
+    (c .before .before .before .before .undo .ensures)
 
 pub take-back-spec : {M : Type 1} → statement M
 take-back-spec =
@@ -71,6 +79,8 @@ take-back-spec =
     add-undo
     sub-undo
     undo-requires
+    sub-row-left-at
+    row-left-at-requires
     retreat-requires
     returns
     same-length

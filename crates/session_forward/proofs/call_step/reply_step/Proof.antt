@@ -46,7 +46,7 @@ has-room-requires c κs = let pre = lent c .pre in (pre .1 .used, omega (arith, 
 returns : tie.Need-returns
 returns c =
     let s = entry (c .before) in
-    full (s .args .cells .now) (s .args .journal .now) (s .args .p) (writes s) (replyRows (s .args .reply .now)) (rows s) (room (c .before) (not-true _ (c .if1 .taken)))
+    full (s .args .cells .now) (s .args .journal .now) (s .args .p) (s .args .next) (writes s) (replyRows (s .args .reply .now)) (rows s) (room (c .before) (not-true _ (c .if1 .taken)))
 
 write-reply-requires : tie.Need-write-reply-requires
 write-reply-requires c κs =
@@ -57,7 +57,7 @@ write-reply-requires c κs =
 advance-requires : tie.Need-advance-requires
 advance-requires c κs =
     let pre = entry (roomed (wrote c) .before) .pre in
-    (omega (arith, pre .1 .done), omega (arith, pre .1 .used, pre .1 .short, pre .0 .few))
+    (omega (arith, pre .1 .steps, pre .1 .used, pre .1 .short), omega (arith, pre .1 .used, pre .1 .short, pre .0 .few))
 
 same-length : tie.Need-same-length
 same-length c = search needs
@@ -70,7 +70,7 @@ returns-2 c =
     let after = wrote (c .before) in
     let at = roomed after in
     let s = entry (at .before) in
-    roomy (s .args .cells .now) (s .args .journal .now) (s .args .p) (writes s) (replyRows (s .args .reply .now)) (rows s) (room (at .before) (not-false _ (at .if1 .left))) (c .advance .ensures) (after .write-reply .ensures .0) (after .write-reply .ensures .1)
+    roomy (s .args .cells .now) (s .args .journal .now) (s .args .p) (s .args .next) (writes s) (replyRows (s .args .reply .now)) (rows s) (room (at .before) (not-false _ (at .if1 .left))) (c .advance .ensures) (after .write-reply .ensures .0) (after .write-reply .ensures .1)
 
 pub reply-step-spec : {M : Type 1} → statement M
 reply-step-spec =

@@ -9,14 +9,14 @@ use Rattle.session_forward.proofs.call_step.write_reply.Statement.{stat
 use Rattle.session_forward.proofs.call_step.write_reply.Tie as tie
 
 abbrev Inv-loop : tie.InvT-loop
-Inv-loop regions parameters arguments call cells₀ journal₀ used reply rows k₀ cells journal k =
+Inv-loop regions parameters arguments call cells₀ journal₀ used row reply rows k₀ cells journal k =
     (k ≤ rows)
     × (length cells ≡ length cells₀)
     × (length journal ≡ length journal₀)
     × Writing cells₀ journal₀ used (replyWrites regions parameters arguments call reply) cells journal k (replyWritesFrom regions parameters arguments call reply k (rows - k))
 
 abbrev μ-loop : tie.MeasureT-loop
-μ-loop regions parameters arguments call cells₀ journal₀ used reply rows k₀ cells journal k = rows - k
+μ-loop regions parameters arguments call cells₀ journal₀ used row reply rows k₀ cells journal k = rows - k
 
 -- ---- the places
 
@@ -82,7 +82,7 @@ returns c =
     let at = left closed .before .loop in
     let s = entry (left closed .before) .args in
     let none = replies-none (s .regions .now) (s .parameters .now) (s .arguments .now) (s .call) (s .reply .now) _ (at .k) (left closed .loop-test .left) in
-    writing-end _ _ _ _ _ _ _ _ (at .inv .3) _ _ _ none (omega arith) refl (closed .close .ensures)
+    writing-end _ _ _ _ _ _ _ _ (at .inv .3) _ _ _ _ none (omega arith) refl (closed .close .ensures)
 
 pub write-reply-spec : {M : Type 1} → statement M
 write-reply-spec =

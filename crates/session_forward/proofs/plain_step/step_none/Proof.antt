@@ -36,7 +36,7 @@ has-room-requires c κs = search needs
 returns : tie.Need-returns
 returns c =
     let s = entry (c .before) .args in
-    λ cells. full cells (s .journal .now) (s .p) [] 0 refl (room (c .before) (not-true _ (c .if1 .taken)))
+    λ cells. full cells (s .journal .now) (s .p) (s .next) [] 0 refl (room (c .before) (not-true _ (c .if1 .taken)))
 
 close-requires : tie.Need-close-requires
 close-requires c κs = let at = c .before .before in omega (arith, room-words _ 0 (entry at .args .p) (room at (not-false _ (c .before .if1 .left))))
@@ -53,7 +53,7 @@ returns-2 c =
     let closed = closing (c .before) in
     let at = roomed closed in
     let s = entry (at .before) .args in
-    λ cells. roomy cells (s .journal .now) (s .p) [] 0 refl (room (at .before) (not-false _ (at .if1 .left))) (c .advance .ensures) refl (closed .close .ensures ∙ sym (journaled-none (s .journal .now) (s .p .used) cells))
+    λ cells. roomy cells (s .journal .now) (s .p) (s .next) [] 0 refl (room (at .before) (not-false _ (at .if1 .left))) (c .advance .ensures) refl (closed .close .ensures ∙ sym (journaled-none (s .journal .now) (s .p .used) (s .p .row) cells))
 
 pub step-none-spec : {M : Type 1} → statement M
 step-none-spec =

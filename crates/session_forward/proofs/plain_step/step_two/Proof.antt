@@ -34,7 +34,7 @@ has-room-requires c κs = search needs
 returns : tie.Need-returns
 returns c =
     let s = entry (c .before) .args in
-    full (s .cells .now) (s .journal .now) (s .p) (s .v ∷ s .w ∷ []) 2 refl (room (c .before) (not-true _ (c .if1 .taken)))
+    full (s .cells .now) (s .journal .now) (s .p) (s .next) (s .v ∷ s .w ∷ []) 2 refl (room (c .before) (not-true _ (c .if1 .taken)))
 
 write-two-requires : tie.Need-write-two-requires
 write-two-requires c κs =
@@ -56,7 +56,7 @@ returns-2 c =
     let after = wrote (c .before) in
     let at = roomed after in
     let s = entry (at .before) .args in
-    roomy (s .cells .now) (s .journal .now) (s .p) (s .v ∷ s .w ∷ []) 2 refl (room (at .before) (not-false _ (at .if1 .left))) (c .advance .ensures) (after .write-two .ensures .0) (after .write-two .ensures .1)
+    roomy (s .cells .now) (s .journal .now) (s .p) (s .next) (s .v ∷ s .w ∷ []) 2 refl (room (at .before) (not-false _ (at .if1 .left))) (c .advance .ensures) (after .write-two .ensures .0) (after .write-two .ensures .1)
 
 pub step-two-spec : {M : Type 1} → statement M
 step-two-spec =

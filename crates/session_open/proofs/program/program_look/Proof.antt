@@ -1,10 +1,35 @@
-use mathlib.Core.Path.{sym, _∙_}
+use mathlib.Core.Bool.{true}
+use mathlib.Core.Path.{_≡_, sym, _∙_}
 use borrow.Author.Tests.{not-true, not-false}
 use Rattle.tables.specs.Outcome.{_>>_, need}
-use Rattle.session_open.specs.Open.{programLook}
+use Rattle.labels.specs.Labels.{labelsFit}
+use Rattle.machine.specs.Condition.{conditionsFit}
+use Rattle.session_open.specs.Open.{noOther, programLook}
 use borrow.Author.Needs.{needs}
 use Rattle.session_open.proofs.program.program_look.Statement.{statement}
 use Rattle.session_open.proofs.program.program_look.Tie as tie
+
+-- ---- the places, and what each look that passed has seen
+
+abbrev entry : tie.After-no-other → tie.Start
+entry c = c .before .before .before .before .before .before
+
+abbrev first : tie.Else2 → tie.Else1
+first c = c .before .before
+
+abbrev second : tie.Else3 → tie.Else2
+second c = c .before .before
+
+none-other : (c : tie.Else1) → noOther (entry (c .before) .args .instructions .now) ≡ true
+none-other c = sym (c .before .no-other .ensures) ∙ not-false _ (c .if1 .left)
+
+labelled : (c : tie.Else2) → labelsFit (entry (first c .before) .args .instructions .now) ≡ true
+labelled c = sym (c .before .labels-fit .ensures) ∙ not-false _ (c .if2 .left)
+
+conditioned : (c : tie.Else3) → let s = entry (first (second c) .before) .args in conditionsFit (s .regions .now) (s .instructions .now) ≡ true
+conditioned c = sym (c .before .conditions-fit .ensures) ∙ not-false _ (c .if3 .left)
+
+-- ---- the needs
 
 no-other-requires : tie.Need-no-other-requires
 no-other-requires c κs = search needs
@@ -13,12 +38,40 @@ returns : tie.Need-returns
 unfolding programLook _>>_ need
 returns c = rw (sym (c .before .no-other .ensures) ∙ not-true _ (c .if1 .taken))
 
-calls-look-requires : tie.Need-calls-look-requires
-calls-look-requires c κs = search needs
+labels-fit-requires : tie.Need-labels-fit-requires
+labels-fit-requires c κs = entry (c .before) .pre .few
 
 returns-2 : tie.Need-returns-2
 unfolding programLook _>>_ need
-returns-2 c = rw (sym (c .before .before .no-other .ensures) ∙ not-false _ (c .before .if1 .left)) (c .calls-look .ensures)
+returns-2 c = rw (none-other (c .before .before), sym (c .before .labels-fit .ensures) ∙ not-true _ (c .if2 .taken))
+
+conditions-fit-requires : tie.Need-conditions-fit-requires
+conditions-fit-requires c κs = search needs
+
+returns-3 : tie.Need-returns-3
+unfolding programLook _>>_ need
+returns-3 c =
+    let at = c .before .before in
+    rw (none-other (first at), labelled at, sym (c .before .conditions-fit .ensures) ∙ not-true _ (c .if3 .taken))
+
+calls-look-requires : tie.Need-calls-look-requires
+calls-look-requires c κs = search needs
+
+returns-4 : tie.Need-returns-4
+unfolding programLook _>>_ need
+returns-4 c =
+    let at = c .before in
+    rw (none-other (first (second at)), labelled (second at), conditioned at) (c .calls-look .ensures)
 
 pub program-look-spec : {M : Type 1} → statement M
-program-look-spec = tie.close (tie.spec no-other-requires returns calls-look-requires returns-2)
+program-look-spec =
+    tie.close
+    (tie.spec
+    no-other-requires
+    returns
+    labels-fit-requires
+    returns-2
+    conditions-fit-requires
+    returns-3
+    calls-look-requires
+    returns-4)

@@ -5,10 +5,10 @@ use Rattle.stepper_lines.proofs.program.program_rows.Statement.{stateme
 use Rattle.stepper_lines.proofs.program.program_rows.Tie as tie
 
 abbrev Inv-loop : tie.InvT-loop
-Inv-loop source names view nodes arguments instructions done rows window row₀ row = Unit {0}
+Inv-loop source names view nodes arguments instructions current rows window row₀ row = Unit {0}
 
 abbrev μ-loop : tie.MeasureT-loop
-μ-loop source names view nodes arguments instructions done rows window row₀ row = window .end - row
+μ-loop source names view nodes arguments instructions current rows window row₀ row = window .end - row
 
 window-at-requires : tie.Need-window-at-requires Inv-loop μ-loop
 window-at-requires c κs = search needs

@@ -1,11 +1,8 @@
-use native.Mathlib.Omega.{arith}
-use borrow.Author.Tests.{le-ltb}
 use mathlib.Core.Path.{_∙_}
 use Rattle.tables.specs.Cases.{caseOf}
 use Rattle.tables.specs.Family as family
-use Rattle.tables.proofs.Cases.{other-arm}
-use Rattle.word_rules.proofs.SourceLaws.{row-of}
-use Rattle.word_rules.specs.Instruction.{operatorsByFamily, operatorsOf, formAllowed, operandsAllowed, instructionAllowed}
+use Rattle.word_rules.proofs.SourceLaws.{row-of, jump-rest}
+use Rattle.word_rules.specs.Instruction.{operatorsOf, formAllowed}
 use borrow.Author.Needs.{needs}
 use Rattle.word_rules.proofs.instruction.instruction_allowed.Statement.{statement}
 use Rattle.word_rules.proofs.instruction.instruction_allowed.Tie as tie
@@ -91,6 +88,9 @@ up-to-requires-11 c κs = search needs
 no-source-requires-5 : tie.Need-no-source-requires-5
 no-source-requires-5 c κs = search needs
 
+jump-allowed-requires : tie.Need-jump-allowed-requires
+jump-allowed-requires c κs = search needs
+
 returns : tie.Need-returns
 unfolding caseOf operatorsOf formAllowed
 returns c = row-of _ _ _ family.arithmetic (c .before .before .match .keys1) (c .before .up-to .ensures) (c .any-source .ensures)
@@ -136,10 +136,7 @@ unfolding caseOf operatorsOf formAllowed
 returns-11 c = row-of _ _ _ family.other (c .before .before .before .before .match .keys11) (c .before .before .before .up-to11 .ensures) (c .no-source5 .ensures)
 
 returns-12 : tie.Need-returns-12
-unfolding instructionAllowed operatorsOf
-returns-12 c =
-    let x = c .before .before .before .before .before .args .x in
-    rw (← other-arm operatorsByFamily 0 (x .family) (c .match .rest), le-ltb (x .operator) 0 (omega arith))
+returns-12 c = c .jump-allowed .ensures ∙ jump-rest _ _ _ (c .before .match .rest)
 
 pub instruction-allowed-spec : {M : Type 1} → statement M
 instruction-allowed-spec =
@@ -169,6 +166,7 @@ instruction-allowed-spec =
     no-source-requires-4
     up-to-requires-11
     no-source-requires-5
+    jump-allowed-requires
     returns
     returns-2
     returns-3

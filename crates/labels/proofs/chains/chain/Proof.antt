@@ -1,0 +1,54 @@
+use native.Mathlib.Omega.{arith}
+use Rattle.labels.proofs.ChainsLaws.{place-below, place-within}
+use borrow.Author.Needs.{needs}
+use Rattle.labels.proofs.chains.chain.Statement.{statement}
+use Rattle.labels.proofs.chains.chain.Tie as tie
+
+place-requires : tie.Need-place-requires
+place-requires c κs = search needs
+
+mul-links : tie.Need-mul-links
+mul-links c = record { fits = omega (arith, place-below (c .before .before .before .args .label), c .place .ensures) }
+
+slice-read-links : tie.Need-slice-read-links
+slice-read-links c = place-within _ (c .before .place .ensures) (c .before .before .before .before .pre .1)
+
+mul-links-2 : tie.Need-mul-links-2
+mul-links-2 c = search needs
+
+slice-write-links : tie.Need-slice-write-links
+slice-write-links c = search needs
+
+cast-heads : tie.Need-cast-heads
+cast-heads c = search needs
+
+mul-heads : tie.Need-mul-heads
+mul-heads c = record { fits = omega (arith, place-below (c .before .before .before .before .args .label), c .before .place .ensures) }
+
+slice-write-heads : tie.Need-slice-write-heads
+slice-write-heads c = place-within _ (c .before .place .ensures) (c .before .before .before .before .pre .1)
+
+same-length : tie.Need-same-length
+same-length c = search needs
+
+same-length-2 : tie.Need-same-length-2
+same-length-2 c = search needs
+
+returns : tie.Need-returns
+returns c = (rw (c .before .place .ensures), rw (c .before .place .ensures))
+
+pub chain-spec : {M : Type 1} → statement M
+chain-spec =
+    tie.close
+    (tie.spec
+    place-requires
+    mul-links
+    slice-read-links
+    mul-links-2
+    slice-write-links
+    cast-heads
+    mul-heads
+    slice-write-heads
+    same-length
+    same-length-2
+    returns)

@@ -1,0 +1,18 @@
+use borrow.Author.Needs.{needs}
+use Rattle.machine.proofs.next.jump_row.Statement.{statement}
+use Rattle.machine.proofs.next.jump_row.Tie as tie
+
+label-row-requires : tie.Need-label-row-requires
+label-row-requires c κs = search needs
+
+returns : tie.Need-returns
+returns c = rw (c .before .if1 .taken) (c .label-row .ensures)
+
+add-result : tie.Need-add-result
+add-result c = search needs
+
+returns-2 : tie.Need-returns-2
+returns-2 c = rw (c .if1 .left)
+
+pub jump-row-spec : {M : Type 1} → statement M
+jump-row-spec = tie.close (tie.spec label-row-requires returns add-result returns-2)
