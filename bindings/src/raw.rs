@@ -92,7 +92,7 @@ pub fn references(
     unsafe { foreign::console_references(nodes.as_ptr(), nodes.len(), first, node_count, place, words, length, count) }
 }
 
-/// How many journal entries are enough. It writes `entries` on 0, `error` on 5.
+/// How many journal entries are enough for a program without jumps. It writes `entries` on 0, `error` on 5.
 #[inline]
 pub fn journal_length(tables: &Tables, entries: &mut [u64; 1], error: &mut [u64; 6]) -> u64 {
     with_tables!(console_journal_length, tables, entries.as_mut_ptr(), error.as_mut_ptr())

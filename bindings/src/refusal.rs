@@ -67,7 +67,7 @@ refusals! {
     16 NegativeShiftCount "a shift count is negative",
     17 UnfitReply "the reply does not fit the CALL, or there is one and the row is no CALL",
     18 NoRule "a cell that is read has no rule: its kind or its word is foreign; or a name is not declared",
-    19 ForeignPosition "the position lies past its tables, or the journal cannot be read",
+    19 ForeignPosition "the position lies past its tables or has more steps than entries, or the journal cannot be read",
     20 UnfitLabels "a label stands on two LABEL rows, or a jump goes to a label that stands on none",
     21 ConditionNotBit "the condition of a jump is not declared, or not BIT",
 }

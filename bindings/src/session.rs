@@ -60,7 +60,7 @@ impl<'a> Session<'a> {
     /// Opens a session at the program's start: every cell is zero, with its declared kind. `memory` takes two words a
     /// cell, `journal` three an entry; [`sizes::MEMORY_WORDS`](crate::sizes::MEMORY_WORDS) and
     /// [`sizes::JOURNAL_WORDS`](crate::sizes::JOURNAL_WORDS) always fit, and
-    /// [`journal_length`](crate::journal_length) is how many entries are enough.
+    /// [`journal_length`](crate::journal_length) is how many entries are enough for a program without jumps.
     /// Refusals in order: 1, 2, 3, 10, 4, 5, 9, 20, 21, then 6, 7, 8 by row.
     pub fn open(tables: Tables<'a>, memory: &'a mut [u64], journal: &'a mut [u64]) -> Result<Session<'a>, Refusal> {
         let mut session = Session { tables, memory, journal, position: Position::default() };

@@ -23,7 +23,7 @@ from reader import HEADINGS, LISTS, OPERATIONS, OTHER_LINES, WIDTHS, read
 ROOT = pathlib.Path(__file__).resolve().parents[2]
 VOCABULARY = sorted({*HEADINGS, *OTHER_LINES, *OPERATIONS, *(word for words in LISTS.values() for word in words)})
 NUMBERS = '0 1 2 3 4 9 -1 0x1 0xFFFFFFFFFFFFFFFF 18446744073709551616 -9223372036854775809 1.5 -0.0 .5 5. 1e5 2.5E-3 0.1234567890123456 0x'.split()
-ODD = '- -- . # a# 1# 2a a+b _ real-1 \x1b[31m é Real move Cell'.split()
+ODD = '- -- . # a# 1# 2a a+b _ real-1 \x1b[31m é Real move Cell @ @a @7 @-1 @0x2 @@a a@ @a# @halt @Real'.split()
 
 
 def parse(out):
@@ -45,7 +45,7 @@ def parse(out):
 
 def byte_changed(rng, data):
     data = bytearray(data)
-    data[rng.randrange(len(data))] = rng.choice([rng.randrange(256), rng.choice(b' \n#-.0123456789abcdefxABCDEF_')])
+    data[rng.randrange(len(data))] = rng.choice([rng.randrange(256), rng.choice(b' \n#@-.0123456789abcdefxABCDEF_')])
     return bytes(data)
 
 
@@ -56,7 +56,7 @@ def byte_dropped(rng, data):
 
 def byte_added(rng, data):
     at = rng.randrange(len(data) + 1)
-    return data[:at] + bytes([rng.choice(b' \n\t\r#-.0123456789abcdefxABCDEF_\0')]) + data[at:]
+    return data[:at] + bytes([rng.choice(b' \n\t\r#@-.0123456789abcdefxABCDEF_\0')]) + data[at:]
 
 
 def words_changed(rng, data, change):
@@ -106,6 +106,16 @@ def letters_changed(rng, data):
     return words_changed(rng, data, change)
 
 
+def label_sign_changed(rng, data):
+    """A word gains or loses the @ before it."""
+    def change(pieces, at):
+        signed = [i for i in range(1, len(pieces), 2) if pieces[i].startswith(b'@')]
+        if signed and rng.random() < 0.5:
+            at = rng.choice(signed)
+        pieces[at] = pieces[at][1:] if pieces[at].startswith(b'@') else b'@' + pieces[at]
+    return words_changed(rng, data, change)
+
+
 def lines_changed(rng, data, change):
     lines = data.split(b'\n')
     change(lines, rng.randrange(len(lines)))
@@ -133,7 +143,7 @@ def line_moved(rng, data):
 
 
 DAMAGE = [byte_changed, byte_dropped, byte_added, word_replaced, word_replaced, word_from_file, words_swapped,
-          word_dropped, word_doubled, letters_changed, line_dropped, line_doubled, lines_joined, line_moved]
+          word_dropped, word_doubled, letters_changed, label_sign_changed, line_dropped, line_doubled, lines_joined, line_moved]
 
 
 def damaged(rng, data):

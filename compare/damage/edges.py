@@ -5,6 +5,10 @@ def names(count):
     return 'nodes\n' + ''.join(f'variable n{i} -\n' for i in range(count))
 
 
+def labels(count):
+    return names(count - 1) + 'instructions\nLABEL - - @last - none - -\n'
+
+
 def nodes(count):
     return 'nodes\n' + 'pi - -\n' * count
 
@@ -50,16 +54,79 @@ instructions / 16 1 - - - 2 - - 5
 instructions / 16 1 a - - - - - -
 instructions / 11 1 - - - 2 - - 5
 instructions / 11 1 a - - - - - -
-instructions / 11 - - - a - - - -
+instructions / 11 - - - @a - - - -
+instructions / 11 - - - @a - none - -
+instructions / 11 - - - 0 - 3 - -
+instructions / 14 3 1 2 @7 5 9 6 4
 instructions / 15 0 0 0 0 0 3 0 0
+instructions / 15 0 0 0 @0 0 3 0 0
+instructions / JUMP - - @a - none - -
 instructions / JUMP - - a - none - -
-instructions / JUMP a 0 a - none - -
+instructions / JUMP - - - - none - -
+instructions / JUMP - - @a 0 none - -
+instructions / JUMP - - @a @a none - -
+instructions / JUMP - - @a - reference @a 0
+instructions / JUMP @a - @a - none - -
+instructions / JUMP a 0 @a - none - -
+instructions / JUMP @a - - - none - -
+instructions / JUMP-WHEN a 0 @a - none - -
 instructions / JUMP-WHEN a 0 a - none - -
-instructions / JUMP-UNLESS a - a 0 none - -
-instructions / LABEL - - 7 5 none - -
+instructions / JUMP-WHEN @a 0 @a - none - -
+instructions / JUMP-WHEN a - @a - none - -
+instructions / JUMP-WHEN @b - a 0 none - -
+instructions / JUMP-WHEN b 0 @a - none - - / JUMP-UNLESS a 0 @b - none - -
+instructions / JUMP-UNLESS a 0 @a - none - -
+instructions / JUMP-UNLESS a 0 @a 0 none - -
+instructions / JUMP-UNLESS a - @a 0 none - -
+instructions / LABEL - - @7 5 none - -
+instructions / LABEL - - @-1 - none - -
+instructions / LABEL - - @0xFF - none - -
+instructions / LABEL - - @18446744073709551615 - none - -
+instructions / LABEL - - @18446744073709551616 - none - -
+instructions / LABEL - - @0x - none - -
+instructions / LABEL - - @1.5 - none - -
+instructions / LABEL - - @ - none - -
+instructions / LABEL - - @ a - none - -
+instructions / LABEL - - @- - none - -
+instructions / LABEL - - @@a - none - -
+instructions / LABEL - - a@ - none - -
+instructions / LABEL - - @a@b - none - -
+instructions / LABEL - - @a# - none - -
+instructions / LABEL - - @# - none - -
+instructions / LABEL - - @a-b - none - -
+instructions / LABEL - - @_ - none - -
+instructions / LABEL - - @7a - none - -
+instructions / LABEL - - @label - none - -
+instructions / LABEL - - @Position - none - -
+instructions / LABEL - - @A - none - - / JUMP - - @a - none - -
+instructions / LABEL - - @a - none - - / LABEL - - @a - none - -
+instructions / LABEL @a
+instructions / @a LABEL - - - none - -
 instructions / HALT - - - - none - -
+instructions / HALT - - @a - none - -
 instructions / HALT - - a - none - -
-instructions / LABEL - - label - none - -
+instructions / NOP - - @a - none - -
+instructions / MOVE @a 0 - - integer 1 -
+instructions / MOVE a @0 - - integer 1 -
+instructions / LOAD a 0 @a - reference a 0
+instructions / CALL @f 0 0 - none - -
+regions / a BIT 1 / instructions / LABEL - - @b - none - - / JUMP-WHEN a 0 @a - none - -
+regions / a BIT 1 / instructions / LABEL - - @7 - none - -
+regions / 7 BIT 1 / instructions / LABEL - - @a - none - -
+regions / 7 BIT 1 / instructions / LABEL - - @7 - none - -
+instructions / LABEL - - @7 - none - - / word 1
+instructions / LABEL - - @a - none - - / word 1
+instructions / word 14 0 0 0 7 0 3 0 0 / JUMP - - @7 - none - -
+instructions / word 14 0 0 0 @7 0 3 0 0
+instructions / word 14 0 0 0 7 0 3 0 0 / JUMP - - @a - none - -
+regions / @a BIT 1
+externs / @f none 0 0
+parameters / @p mutable scalar BIT -
+nodes / variable @a -
+nodes / address @a 0
+arguments / identifier @a -
+@regions
+regions / @7 BIT 1
 regions / Halt BIT 1
 regions / jump-when BIT 1
 instructions / 4 - 0 0 - - integer 5 -
@@ -76,10 +143,13 @@ position 0
 position 0 1
 position 0 1 2
 position 0 1 2 3
+position 0 1 -
+position @0 1 2
+position 0x1 -1 18446744073709551615
 '''
 
 EDGES = [text.encode() for text in [
-    names(1024), names(1025), nodes(2062), nodes(2063), '#' * 65535, '#' * 65536,
+    names(1024), names(1025), labels(1024), labels(1025), nodes(2062), nodes(2063), '#' * 65535, '#' * 65536,
     'nodes\nword' + ' 1' * 16, 'nodes\nword' + ' 1' * 17,
     *(line.replace(' / ', '\n') for line in WORDS.strip().split('\n')),
 ]]

@@ -40,7 +40,7 @@ OPERATIONS = {word: (family, operator) for family, words in enumerate(FAMILIES) 
 
 RESERVED = {word.lower() for words in [HEADINGS, OTHER_LINES, OPERATIONS, *LISTS.values()] for word in words}
 
-CELL, REGION, NONE = ['name', 'whole'], ['name', 'unused'], ['unused', 'unused']
+CELL, REGION, LABEL, NONE = ['name', 'whole'], ['name', 'unused'], ['label', 'unused'], ['unused', 'unused']
 OPERANDS = {
     0: CELL + NONE,
     1: CELL + CELL,
@@ -53,10 +53,10 @@ OPERANDS = {
     8: ['whole', 'whole'] + NONE,
     9: CELL + ['whole', 'unused'],
     10: NONE + NONE,
-    11: NONE + REGION,
-    12: CELL + REGION,
-    13: CELL + REGION,
-    14: NONE + REGION,
+    11: NONE + LABEL,
+    12: CELL + LABEL,
+    13: CELL + LABEL,
+    14: NONE + LABEL,
     15: NONE + NONE,
 }
 ONE_OPERATOR = {4, 5, 6, 7, 9, 11, 12, 13, 14, 15}
@@ -146,6 +146,10 @@ class File:
         """The one or two numbers of a word at its place."""
         if place == 'name':
             return [self.name(word)]
+        if place == 'label':
+            if not word.startswith('@'):
+                raise Refused
+            return [self.name(word[1:])]
         if place == 'real':
             return [real(word)]
         if place == 'unused' and word == '-':

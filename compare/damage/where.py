@@ -1,10 +1,13 @@
 #!/usr/bin/env python3
-"""Random tables: of each refusal 1, 2 and 3 the console's program must name the place.
+"""Random tables: of each refusal 1, 2, 3, 20 and 21 the console's program must name the place.
 
 Usage: compare/damage/where.py [--seed N] [--runs N] [--show N] [--program PATH]
 
-N (2000) sets of six tables are made at random, damaged, written as numbers and given to `target/bin/stepper check FILE`.
-The refusal is that of the model of crates/cases_calls, the place and its words are worked out here from the laboratory's paper.
+N (2000) sets of six tables are made at random, about a third of jumps and labels alone, damaged, written as numbers
+and given to `target/bin/stepper check FILE`.
+The refusal is that of the model of crates/cases_calls, the place and its words are worked out here from the laboratory's paper;
+of 20 and 21, of which the papers name no place, from docs/DECISIONS.md (K11), in the words of crates/stepper/stdout.
+Of any other refusal the number alone is compared.
 The last line has the counts; ends with 0 only if nothing differs and every kind of place was met.
 """
 import argparse
@@ -18,7 +21,9 @@ import tempfile
 
 ROOT = pathlib.Path(__file__).resolve().parents[2]
 sys.path.insert(0, str(ROOT / 'crates' / 'cases_calls'))
-from rules.tables import LIMITS, WIDTHS, decoded, is_range, load, one_tree  # noqa: E402
+from rules.outcome import Refused  # noqa: E402
+from rules.session import journal_length  # noqa: E402
+from rules.tables import LIMITS, WIDTHS, decoded, is_range, one_tree  # noqa: E402
 
 HEADINGS = 'regions externs parameters nodes arguments instructions'.split()
 COLUMNS = [
@@ -35,7 +40,8 @@ MNEMONICS = [line.split() for line in (
     'ADD SUB DIV MUL', 'EQ GE GT LE LT', 'AND IOR XOR SHL SHR ASHR', 'NEG NOT', 'MOVE', 'EXCHANGE', 'LOAD', 'STORE',
     'SET-FREQUENCY SET-PHASE SET-SCALE SHIFT-FREQUENCY SHIFT-PHASE', 'CALL', 'NOP OTHER',
     'JUMP', 'JUMP-WHEN', 'JUMP-UNLESS', 'LABEL', 'HALT')]
-FRAME, CALL = 8, 9
+KINDS = 'BIT INTEGER OCTET REAL'.split()
+FRAME, CALL, NOP, JUMP, JUMP_WHEN, JUMP_UNLESS, LABEL, HALT = 8, 9, 10, 11, 12, 13, 14, 15
 
 ANY, UNUSED = 'any', 'unused'
 # Of each family the last operator (UNUSED where there is one alone), which of words 3 to 6 are used, the source forms.
@@ -156,10 +162,49 @@ def names(tables):
     raise AssertionError('no name twice')
 
 
+def labels(tables):
+    """The first row whose label an earlier one has, else the first jump whose label is on no row."""
+    rows = decoded(tables).instructions
+    seen = {}
+    for number, row in enumerate(rows):
+        if row.family == LABEL:
+            if row.second in seen:
+                return 'labels', [f'instructions, rows {seen[row.second]} and {number} have the same label (@#{row.second})']
+            seen[row.second] = number
+    for number, row in enumerate(rows):
+        if row.family in (JUMP, JUMP_WHEN, JUMP_UNLESS) and row.second not in seen:
+            return 'target', [head(5, number, row) + ':', f'  no LABEL row has its label (@#{row.second})']
+    raise AssertionError('no label twice and none absent')
+
+
+def conditions(tables):
+    rows = decoded(tables)
+    kinds = {region.name: region.kind for region in rows.regions}
+    for number, row in enumerate(rows.instructions):
+        if row.family in (JUMP_WHEN, JUMP_UNLESS) and kinds.get(row.first) != 0:
+            if row.first not in kinds:
+                return 'undeclared', [head(5, number, row) + ':', f'  the condition (#{row.first}) is not declared']
+            return 'kind', [head(5, number, row) + ':',
+                            f'  the condition (#{row.first}) is {KINDS[kinds[row.first]]}, where BIT is required']
+    raise AssertionError('no condition that is not declared or not BIT')
+
+
+PLACES = {1: shape, 2: word, 3: names, 20: labels, 21: conditions}
+
+
+def refused(tables):
+    """Open's refusal, or 0. What is lent is long enough, so there is no 4."""
+    try:
+        journal_length(tables)
+    except Refused as refusal:
+        return refusal.number
+    return 0
+
+
 def expected(tables):
     """The refusal, the kind of place, and the lines that tell it."""
-    refusal = load(tables)
-    kind, lines = {1: shape, 2: word, 3: names}[refusal](tables) if refusal else ('none', [])
+    refusal = refused(tables)
+    kind, lines = PLACES[refusal](tables) if refusal in PLACES else ('other' if refusal else 'none', [])
     return refusal, kind, lines
 
 
@@ -209,6 +254,29 @@ def allowed_tables(rng):
     return [[w for row in rows for w in row] for rows in (regions, externs, parameters, nodes, arguments, instructions)]
 
 
+def jumping_tables(rng):
+    """Six tables of regions, labels and jumps, so that open comes to 20 and 21; most of the labels fit."""
+    regions = [[name, rng.choice([0, 0, 0, 1, 2, 3]), rng.randrange(4)] for name in rng.sample(range(6), rng.randrange(3, 7))]
+    known = rng.sample(range(9), rng.randrange(1, 5))
+    rows = [[LABEL, 0, 0, 0, label, 0, 3, 0, 0] for label in known]
+    for _ in range(rng.randrange(7)):
+        family = rng.choice([NOP, JUMP, JUMP_WHEN, JUMP_WHEN, JUMP_UNLESS, JUMP_UNLESS, HALT])
+        condition = [rng.choice(regions)[0], rng.randrange(3)] if family in (JUMP_WHEN, JUMP_UNLESS) else [0, 0]
+        label = rng.choice(known) if family in (JUMP, JUMP_WHEN, JUMP_UNLESS) else 0
+        rows.append([family, 0, *condition, label, 0, 3, 0, 0])
+    rng.shuffle(rows)
+    return [[w for row in regions for w in row], [], [], [], [], [w for row in rows for w in row]]
+
+
+def label_changed(rng, tables):
+    """One row's label or condition."""
+    rows = [at for at in range(0, len(tables[5]) - 8, 9) if JUMP <= tables[5][at] <= LABEL]
+    if rows:
+        at = rng.choice(rows)
+        column = rng.choice([2, 4]) if tables[5][at] in (JUMP_WHEN, JUMP_UNLESS) else 4
+        tables[5][at + column] = rng.choice([tables[5][rng.choice(rows) + 4], rng.randrange(9), rng.getrandbits(64)])
+
+
 def word_changed(rng, tables):
     words = rng.choice([t for t in tables if t] or [[0]])
     words[rng.randrange(len(words))] = rng.choice([rng.randrange(18), rng.randrange(18), rng.getrandbits(64), 2**64 - 1])
@@ -246,6 +314,11 @@ def over_limit(rng, tables):
 
 
 def damaged(rng):
+    if rng.randrange(3) == 0:
+        tables = jumping_tables(rng)
+        for _ in range(rng.randrange(4)):
+            rng.choices([label_changed, row_copied], [4, 1])[0](rng, tables)
+        return tables
     tables = allowed_tables(rng)
     for _ in range(rng.choice([1, 1, 1, 2, 3])):
         rng.choices([word_changed, words_dropped, row_copied, frame_changed, over_limit], [6, 1, 3, 2, 1])[0](rng, tables)
@@ -277,8 +350,8 @@ def told(program, path):
 
 def agrees(answer, refusal, lines):
     number, place, verdict = answer
-    if refusal == 0:
-        return number not in (1, 2, 3)
+    if refusal not in PLACES:
+        return number == refusal
     return number == refusal and place == lines and verdict == f'turned down {refusal}' and all(len(line) <= 80 for line in place)
 
 
@@ -303,7 +376,8 @@ def main():
                 differ += 1
                 if differ <= chosen.show:
                     print(path.read_text(), 'expected', refusal, lines, '\ntold', answer)
-    missing = [kind for kind in ('words', 'limit', 'word', 'range', 'tree', 'regions', 'externs') if not counts[kind]]
+    missing = [kind for kind in ('words', 'limit', 'word', 'range', 'tree', 'regions', 'externs', 'labels', 'target', 'undeclared', 'kind')
+               if not counts[kind]]
     kinds = ', '.join(f'{kind} {counts[kind]}' for kind in sorted(counts))
     print(f'{chosen.runs} programs: {kinds}; never met: {" ".join(missing) or "none"}; {differ} differ')
     return 1 if differ or missing else 0

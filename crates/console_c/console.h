@@ -322,7 +322,8 @@ static inline const char *console_cause(uint64_t number)
         return "a cell that is read has no rule: its kind or its word is foreign; or a name is not "
                "declared";
     case CONSOLE_REFUSAL_FOREIGN_POSITION:
-        return "the position lies past its tables, or the journal cannot be read";
+        return "the position lies past its tables or has more steps than entries, or the journal "
+               "cannot be read";
     case CONSOLE_REFUSAL_UNFIT_LABELS:
         return "a label stands on two LABEL rows, or a jump goes to a label that stands on none";
     case CONSOLE_REFUSAL_CONDITION_NOT_BIT:

@@ -84,7 +84,7 @@ pub fn word(session: &Session, reference: MemoryReference) -> u64 {
     session.cell(reference).unwrap().word
 }
 
-/// Row, steps done, entries used.
+/// Row, steps not taken back, entries used.
 pub fn position(session: &Session) -> (u64, u64, u64) {
     let position = session.position();
     (position.row, position.done, position.used)

@@ -69,7 +69,7 @@ def open_session(words, memory, journal):
 
 
 def prepare_at(words, memory, journal, position):
-    """The decoded tables, after the refusals up to 19: "more steps than entries is 19"; a row past the last is the end and no 19."""
+    """The decoded tables, after the refusals up to 19: "more steps than entries is 19"; the row just past the last is the end and no 19."""
     tables = prepare(words, memory, journal)
     row, steps, used = position
     need(row <= len(tables.instructions) and steps <= used <= len(journal) // 3, 19)

@@ -7,7 +7,6 @@ use native.Mathlib.Omega.{arith}
 use native.Mathlib.Decide.{ℕ-discrete}
 use lib.Dec.{eqb}
 use borrow.Author.Tests.{eq-eqb, ne-eqb}
-use Rattle.tables.specs.Family as family
 use Rattle.tables.specs.First.{first, every}
 use Rattle.tables.specs.Rows.{instructionRows, instructionAt}
 use Rattle.tables.specs.declared.rows.Instruction.{Instruction}

@@ -1,5 +1,5 @@
--- How a label is found without comparing every two rows. Each label has a place; the LABEL rows of one place are a chain, from the last to the first:
--- `heads` has a place's last row, `links` a row's next one in its chain.
+-- How a label is found without comparing every two rows. Each label has a bucket; the LABEL rows of one bucket are a chain, from the last to the first:
+-- `heads` has a bucket's last row, `links` a row's next one in its chain.
 use Prim.Native.Nat.{ℕ, _%_, _<_}
 use mathlib.Core.Bool.{Bool, true, false, _&&_}
 use mathlib.Core.List.{List}
@@ -9,24 +9,24 @@ use lib.ListN.{getD, length}
 use Rattle.tables.specs.Rows.{instructionLimit, instructionAt}
 use Rattle.labels.specs.Labels.{isLabel, labelAt, hasLabel}
 
--- how many places there are
-abbrev pub placeCount : ℕ
-placeCount = 1021
+-- how many buckets there are
+abbrev pub bucketCount : ℕ
+bucketCount = 1021
 
-unfoldable pub placeOf : ℕ → ℕ
-placeOf label = label % placeCount
+unfoldable pub bucketOf : ℕ → ℕ
+bucketOf label = label % bucketCount
 
--- whether a word that was read for a row is one of the first n rows and in that place's chain. Any other word ends the chain, so that no room is cleared first.
+-- whether a word that was read for a row is one of the first n rows and in that bucket's chain. Any other word ends the chain, so that it does not matter what the room holds at first.
 unfoldable pub chained : List ℕ → ℕ → ℕ → ℕ → Bool
-chained instructions n place k = ltb k n && (isLabel (instructionAt instructions k) && eqb (placeOf (labelAt instructions k)) place)
+chained instructions n bucket k = ltb k n && (isLabel (instructionAt instructions k) && eqb (bucketOf (labelAt instructions k)) bucket)
 
 -- of the first n rows, those after the word k, or all where it ends the chain, have not that label
 pub record Passed (instructions : List ℕ) (label n k : ℕ) : Type 0 where
-  pub row : (j : ℕ) → j < n → (chained instructions n (placeOf label) k ≡ true → k < j) → hasLabel instructions label j ≡ false
+  pub row : (j : ℕ) → j < n → (chained instructions n (bucketOf label) k ≡ true → k < j) → hasLabel instructions label j ≡ false
 
 -- the chains of the first n rows
 pub record Chains (instructions heads links : List ℕ) (n : ℕ) : Type 0 where
-  pub places : length heads ≡ placeCount
+  pub buckets : length heads ≡ bucketCount
   pub rows : length links ≡ instructionLimit
-  pub head : (label : ℕ) → Passed instructions label n (getD heads (placeOf label) 0)
-  pub link : (label k : ℕ) → chained instructions n (placeOf label) k ≡ true → Passed instructions label k (getD links k 0)
+  pub head : (label : ℕ) → Passed instructions label n (getD heads (bucketOf label) 0)
+  pub link : (label k : ℕ) → chained instructions n (bucketOf label) k ≡ true → Passed instructions label k (getD links k 0)

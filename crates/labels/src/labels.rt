@@ -5,8 +5,8 @@ ghost use Prim.Native.Nat.{_+_, _≤_, _<_};
 ghost use lib.ListN.{length};
 ghost use Rattle.tables.specs.Rows.{instructionRows, instructionLimit};
 ghost use Rattle.labels.specs.Labels.{isJump, labelRow, newLabel, hasTarget, labelsDistinct, targetsPresent, unlabelled, labelsFit};
-ghost use Rattle.labels.specs.Chains.{placeCount, Chains};
-use crate::chains::PLACES;
+ghost use Rattle.labels.specs.Chains.{bucketCount, Chains};
+use crate::chains::BUCKETS;
 use crate::chains::chain;
 use crate::chains::has_label;
 use crate::chains::is_labelled;
@@ -53,7 +53,7 @@ fn chain_row(instructions: &[u64], heads: &mut [u16], links: &mut [u16], row: us
 
 // Whether no label is on two rows; all LABEL rows are then chained.
 fn chain_labels(instructions: &[u64], heads: &mut [u16], links: &mut [u16]) -> bool
-    requires { ⌜ (instructionRows (now instructions) ≤ instructionLimit) × (length (now heads) ≡ placeCount) × (length (now links) ≡ instructionLimit) ⌝ }
+    requires { ⌜ (instructionRows (now instructions) ≤ instructionLimit) × (length (now heads) ≡ bucketCount) × (length (now links) ≡ instructionLimit) ⌝ }
     ensures { λ r. ⌜ r ≡ labelsDistinct (now (instructions .entry)) ⌝ }
     ensures { λ r. ⌜ (r ≡ true → Chains (now (instructions .entry)) (now (heads .exit)) (now (links .exit)) (instructionRows (now (instructions .entry)))) ⌝ }
 {
@@ -124,7 +124,7 @@ fn chains_fit(instructions: &[u64]) -> bool
     requires { ⌜ instructionRows (now instructions) ≤ instructionLimit ⌝ }
     ensures { λ r. ⌜ r ≡ labelsFit (now (instructions .entry)) ⌝ }
 {
-    let mut heads = [NO_ROW; PLACES as usize];
+    let mut heads = [NO_ROW; BUCKETS as usize];
     let mut links = [NO_ROW; INSTRUCTION_LIMIT];
     if !chain_labels(instructions, &mut heads, &mut links) {
         return false;

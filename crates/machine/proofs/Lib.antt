@@ -6,3 +6,4 @@ pub mod Exchange
 pub mod Looked
 pub mod NextLaws
 pub mod ConditionLaws
+pub mod ConditionRead

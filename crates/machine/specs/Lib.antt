@@ -3,5 +3,5 @@ pub mod Families
 pub mod Exchange
 pub mod Reach
 pub mod Outcome
-pub mod Next
 pub mod Condition
+pub mod Next

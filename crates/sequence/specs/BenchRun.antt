@@ -20,7 +20,7 @@ use Rattle.tables.specs.First.{first, every}
 use Rattle.tables.specs.Tables.{Tables, tablesOf}
 use Rattle.loader.specs.Shape.{wholeRows, wholeTables}
 use Rattle.word_rules.specs.Allowed.{regionAllowed, nodeAllowed, regionsAllowed, externsAllowed, parametersAllowed, nodesAllowed, argumentsAllowed}
-use Rattle.word_rules.specs.Instruction.{jumpOperatorsOf, operatorsOf, formAllowed, sourceAllowed, jumpOperandsAllowed, operandsAllowed, instructionAllowed, instructionsAllowed}
+use Rattle.word_rules.specs.Instruction.{flowOperatorsOf, operatorsOf, formAllowed, sourceAllowed, flowOperandsAllowed, operandsAllowed, instructionAllowed, instructionsAllowed}
 use Rattle.labels.specs.Labels.{labelled, labelsDistinct, targetsPresent, labelsFit}
 use Rattle.tables.specs.Tree.{arityOf, treesFrom, inside, oneTree}
 use Rattle.tables.specs.Lookup.{lookupOf, lookupAmong, distinct}
@@ -114,7 +114,7 @@ unfoldable pub run : List ℕ → List ℕ → ℕ → List Call → Run
 unfolding fitsKind widthOf lowBits signed wordOf integerIsNegative integerDivide integerQuotient shiftLeft shiftRightArithmetic shifted shlAt ashrAt
     realAboveEpsilon size ofBits lt caseOf
     _>>=_ _>>_ need first every loadLook wholeTables wholeRows allowedTables regionsAllowed regionAllowed externsAllowed parametersAllowed nodesAllowed
-    nodeAllowed argumentsAllowed instructionsAllowed instructionAllowed jumpOperatorsOf operatorsOf formAllowed sourceAllowed jumpOperandsAllowed operandsAllowed oneTree inside treesFrom
+    nodeAllowed argumentsAllowed instructionsAllowed instructionAllowed flowOperatorsOf operatorsOf formAllowed sourceAllowed flowOperandsAllowed operandsAllowed oneTree inside treesFrom
     arityOf distinctNames distinct lookupOf lookupAmong cellsOf cellCount firstCell sumTo
     checkOf verdictOf judgementOf rowRule ruleOf sourceCode operandCode codeOf kindCode arithmeticRule sourceRule logicRule logicSource moveRule
     exchangeRule loadRule loadOffset storeRule storeSource frameRule treeVerdict nodeVerdict numberVerdict

@@ -1,4 +1,4 @@
--- What is known behind the looks at the tables, and behind those that open, forward and back begin with. Assumes nothing.
+-- What is known behind the looks at the tables, and behind those that open, forward, back and run begin with. Assumes nothing.
 use Prim.Native.Nat.{ℕ, _*_, _%_, _≤_}
 use mathlib.Core.Bool.{Bool, true, _&&_}
 use mathlib.Core.List.{List}

@@ -1,4 +1,4 @@
--- 01, Order: "1, 2, 3, 10, 4, 19", with which forward and back begin; 19 and 13 are looks at a position.
+-- 01, Order: "1, 2, 3, 10, 4, 19", with which forward, back and run begin; 19 and 13 are looks at a position.
 use Prim.Native.Nat.{ℕ, _+_, _-_}
 use mathlib.Core.Bool.{Bool, _&&_}
 use mathlib.Core.List.{List}

@@ -54,7 +54,7 @@ callsFrom t row n = first (λ k. isRefused (callLook t k)) (callLook t) (ok tt) 
 unfoldable pub callsLook : Tables → Outcome (Unit {0})
 callsLook t = callsFrom t 0 (instructionRows (t .instructions))
 
--- "9, 20, 21, then 6, 7, 8 by row"
+-- 9, 20, 21, then 6, 7, 8 by row
 unfoldable pub programLook : Tables → Outcome (Unit {0})
 programLook t = do
   need (noOther (t .instructions)) otherInstruction
@@ -82,14 +82,14 @@ abbrev pub unlessError : Verdict → OpenLook → OpenLook
 unlessError T.Accepted rest = rest
 unlessError (T.Error e) rest = L.Error e
 
--- "5, 9, 20, 21, then 6, 7, 8 by row"
+-- 5, then those
 unfoldable pub programVerdict : Tables → OpenLook
 programVerdict t =
     unlessError (checkOf (t .regions) (t .nodes) (t .instructions))
     (unlessRefused (programLook t)
     L.Accepted)
 
--- "1, 2, 3, 10 .. 5, 9, 20, 21, then 6, 7, 8 by row": open's looks without the buffers
+-- 1, 2, 3, 10, 5, 9, 20, 21, then 6, 7, 8 by row: open's looks without the buffers
 unfoldable pub tablesVerdict : Tables → OpenLook
 tablesVerdict t = unlessRefused (tablesLook t) (programVerdict t)
 

@@ -1,13 +1,13 @@
 -- The claim on run: every run is that many forwards. No premises, no axioms.
 use Prim.Native.Nat.{ℕ, zero, suc, _+_, _*_, _<_, _≤_}
 use mathlib.Core.Bool.{Bool, true, false, cond}
-use mathlib.Core.List.{List, [], _++_}
+use mathlib.Core.List.{List, []}
 use mathlib.Core.Path.{_≡_, refl, sym, ap, _∙_, subst}
 use native.Mathlib.Omega.{arith}
 use lib.ListN.{length, take, drop, take-append-drop}
 use lib.Dec.{leb, ltb}
 use borrow.Author.Tests.{leb-true, leb-false, ltb-true}
-use Rattle.tables.specs.Outcome.{Outcome, ok, refuse}
+use Rattle.tables.specs.Outcome.{Outcome, ok, refuse, _>>=_}
 use Rattle.tables.specs.Tables.{Tables}
 use Rattle.tables.specs.Rows.{instructionRows, instructionAt}
 use Rattle.tables.specs.Cells.{cellCount}
@@ -26,11 +26,10 @@ use Rattle.session.specs.declared.answer.StepAnswer.{StepAnswer}
 use Rattle.session.specs.declared.answer.StepAnswer.the-variants as S
 use Rattle.session.specs.declared.answer.Stop.{Stop}
 use Rattle.session.specs.declared.answer.Stop.the-variants.{Allowance, End, Call, Refusal}
-use Rattle.session.specs.declared.answer.RunAnswer.{RunAnswer}
 use Rattle.session.specs.declared.answer.RunAnswer.the-variants.{Ran, Refused}
 use Rattle.session_forward.specs.Forward.{Left, left, stepLook, forwardLook, stepped, forwardTables}
 use Rattle.session_run.specs.Run.{Running, stopped, onward, turn, runBy, forwardStep, unlessRefused, runTables}
-use Rattle.session_run.specs.Claim.{forwardFrom, forwards, Moves, BeforeCall, Says, RunIs, ended, lent, Runs, RunClaim}
+use Rattle.session_run.specs.Claim.{forwardFrom, forwards, Moves, BeforeCall, AtRefusal, Says, RunIs, ended, lent, Runs, RunClaim}
 
 module _ (t : Tables) where
   abbrev rows : ℕ
@@ -95,9 +94,9 @@ module _ (t : Tables) where
   -- a step more
   says-more : (left steps : ℕ) (e : Session) (stop : Stop) → Says t left steps e stop → Says t (suc left) (suc steps) e stop
   says-more left steps e Allowance q = ap suc q
-  says-more left steps e End q = q
-  says-more left steps e Call q = q
-  says-more left steps e (Refusal number) q = q
+  says-more left steps e End q = (omega (arith, q .0), q .1)
+  says-more left steps e Call q = (omega (arith, q .0), q .1)
+  says-more left steps e (Refusal number) q = (omega (arith, q .0), q .1)
 
   moves-more : (s : Session) (steps : ℕ) → Moves t s → ((k : ℕ) → k < steps → Moves t (forwards t k (after (forwardFrom t s))))
       → (k : ℕ) → k < suc steps → Moves t (forwards t k s)
@@ -134,14 +133,14 @@ module _ (t : Tables) where
     rest = runBy (forwardStep t) (t .instructions) left (taken + 1)
 
     -- at a row of the program that is no CALL
-    goes-on : Forwarded s l → Goes s (suc left) taken (onward rest taken (l .memory) (l .journal) (l .answer))
-    goes-on (moved p e d) =
+    goes-on : s .position .row < rows → isCall (instructionAt (t .instructions) (s .position .row)) ≡ false → Forwarded s l → Goes s (suc left) taken (onward rest taken (l .memory) (l .journal) (l .answer))
+    goes-on h f (moved p e d) =
         one-more s left taken _ p e d
         (subst (λ (a : StepAnswer). Goes (after l) left (taken + 1) (onward rest taken (l .memory) (l .journal) a)) (sym e)
         (subst (λ (q : Position). Goes (after l) left (taken + 1) (rest (l .memory) (l .journal) q)) (ap positionOf e) (more (after l))))
-    goes-on (refused number e) =
+    goes-on h f (refused number e) =
         subst (λ (k : Left). Goes s (suc left) taken (onward rest taken (k .memory) (k .journal) (k .answer))) (sym e)
-        (stops s (suc left) taken (Refusal number) (ap (λ (k : Left). k .answer) e) (λ h m.
+        (stops s (suc left) taken (Refusal number) (omega arith, record { row = h; plain = f; refused = ap (λ (k : Left). k .answer) e }) (λ z m.
         let z : _≡_ {A = ℕ} 0 1 = ap isMoved (sym (ap (λ (k : Left). k .answer) e) ∙ m .moved) in absurd (omega arith)))
       where
         isMoved : StepAnswer → ℕ
@@ -158,9 +157,9 @@ module _ (t : Tables) where
             (cond b (stopped taken Call (s .position) (s .memory) (s .journal)) (onward rest taken (l .memory) (l .journal) (l .answer))))
         at true e b f =
             let h = leb-true rows (s .position .row) e in
-            stops s (suc left) taken End h (λ z m. absurd (omega (arith, moves-inside s m, h)))
-        at false e true f = let call : BeforeCall t s = record { row = leb-false rows (s .position .row) e; call = f } in stops s (suc left) taken Call call (λ h m. call)
-        at false e false f = goes-on (forwarded s)
+            stops s (suc left) taken End (omega arith, h) (λ z m. absurd (omega (arith, moves-inside s m, h)))
+        at false e true f = let call : BeforeCall t s = record { row = leb-false rows (s .position .row) e; call = f } in stops s (suc left) taken Call (omega arith, call) (λ h m. call)
+        at false e false f = goes-on (leb-false rows (s .position .row) e) f (forwarded s)
 
   goes : (allowance taken : ℕ) (s : Session) → Goes s allowance taken (runBy (forwardStep t) (t .instructions) allowance taken (s .memory) (s .journal) (s .position))
   unfolding runBy
@@ -187,13 +186,19 @@ module _ (t : Tables) where
     ran-is allowance steps stop p′ (ok n) e = said allowance (run allowance) steps stop p′ (goes allowance 0 (lent t memory journal p)) e
     ran-is allowance steps stop p′ (refuse number) e = let z : _≡_ {A = ℕ} 0 1 = cc in absurd (omega arith)
 
-    refused-is : (allowance number : ℕ) (p′ : Position) (o : Outcome ℕ) → unlessRefused o p memory journal (run allowance) .answer ≡ Refused number p′
-        → ended (unlessRefused o p memory journal (run allowance)) ≡ lent t memory journal p
-    refused-is allowance number p′ (ok n) e =
+    -- forward makes the same looks first
+    forward-refused : (number : ℕ) → placedLook t (length memory) (length journal) p ≡ refuse number → forwardFrom t (lent t memory journal p) .answer ≡ S.Refused number p
+    unfolding forwardTables withTail forwardLook stepped _>>=_
+    forward-refused number e = rw e
+
+    refused-is : (allowance number : ℕ) (p′ : Position) (o : Outcome ℕ) → placedLook t (length memory) (length journal) p ≡ o
+        → unlessRefused o p memory journal (run allowance) .answer ≡ Refused number p′
+        → (ended (unlessRefused o p memory journal (run allowance)) ≡ lent t memory journal p) × (forwardFrom t (lent t memory journal p) .answer ≡ S.Refused number p)
+    refused-is allowance number p′ (ok n) h e =
         let g = goes allowance 0 (lent t memory journal p) in
         let same : Ran (0 + g .steps) (g .stop) (g .position) ≡ Refused number p′ = sym (g .answer-is) ∙ e in
         let z : _≡_ {A = ℕ} 0 1 = cc in absurd (omega arith)
-    refused-is allowance number p′ (refuse k) e = refl
+    refused-is allowance number p′ (refuse k) h e = let q : k ≡ number = cc in (refl, forward-refused number (h ∙ ap refuse q))
 
     none-is : (o : Outcome ℕ) → ended (unlessRefused o p memory journal (run 0)) ≡ lent t memory journal p
     unfolding runBy
@@ -204,7 +209,7 @@ module _ (t : Tables) where
     unfolding runTables
     runs = record {
       ran = λ allowance steps stop p′ e. ran-is allowance steps stop p′ (placedLook t (length memory) (length journal) p) e;
-      refused = λ allowance number p′ e. refused-is allowance number p′ (placedLook t (length memory) (length journal) p) e;
+      refused = λ allowance number p′ e. refused-is allowance number p′ (placedLook t (length memory) (length journal) p) refl e;
       none = none-is (placedLook t (length memory) (length journal) p);
     }
 

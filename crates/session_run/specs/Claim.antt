@@ -1,13 +1,13 @@
 -- 02, P4: what is claimed of every run, whatever it is lent. To be read without the proofs; Top.antt in proofs/ has the theorem. The quoted sentences are 02's and 01's.
 use Prim.Native.Nat.{ℕ, zero, suc, _+_, _<_, _≤_}
-use mathlib.Core.Bool.{true}
+use mathlib.Core.Bool.{true, false}
 use mathlib.Core.List.{List, []}
 use mathlib.Core.Path.{_≡_}
 use Rattle.tables.specs.Tables.{Tables}
 use Rattle.tables.specs.Rows.{instructionRows, instructionAt}
 use Rattle.journal.specs.declared.position.Position.{Position}
 use Rattle.machine.specs.Outcome.{isCall}
-use Rattle.session.specs.Answer.{positionOf, runPosition}
+use Rattle.session.specs.Answer.{runPosition}
 use Rattle.session.specs.Session.{Session, after}
 use Rattle.session.specs.declared.answer.StepAnswer.the-variants as S
 use Rattle.session.specs.declared.answer.Stop.{Stop}
@@ -35,12 +35,19 @@ pub record BeforeCall (t : Tables) (s : Session) : Type 0 where
   pub row : s .position .row < instructionRows (t .instructions)
   pub call : isCall (instructionAt (t .instructions) (s .position .row)) ≡ true
 
--- "or sooner only at the end, before a CALL or at a refusal, and says which": what each stop says of the allowance, the steps taken and where the run came to
+-- a session at a row that is no CALL, which a forward refuses
+pub record AtRefusal (t : Tables) (s : Session) (number : ℕ) : Type 0 where
+  pub row : s .position .row < instructionRows (t .instructions)
+  pub plain : isCall (instructionAt (t .instructions) (s .position .row)) ≡ false
+  pub refused : forwardFrom t s .answer ≡ S.Refused number (s .position)
+
+-- "or sooner only at the end, before a CALL or at a refusal, and says which": what each stop says of the allowance, the steps taken and where the run came to.
+-- Of one session no two stops say something true: "before each step, come allowance, end, CALL, refusal".
 abbrev pub Says : Tables → ℕ → ℕ → Session → Stop → Type 0
 Says t allowance steps s Allowance = steps ≡ allowance
-Says t allowance steps s End = instructionRows (t .instructions) ≤ s .position .row
-Says t allowance steps s Call = BeforeCall t s
-Says t allowance steps s (Refusal number) = forwardFrom t s .answer ≡ S.Refused number (s .position)
+Says t allowance steps s End = (steps < allowance) × (instructionRows (t .instructions) ≤ s .position .row)
+Says t allowance steps s Call = (steps < allowance) × BeforeCall t s
+Says t allowance steps s (Refusal number) = (steps < allowance) × AtRefusal t s number
 
 -- of a run with an allowance from session s, which came to session e after so many steps
 pub record RunIs (t : Tables) (s : Session) (allowance steps : ℕ) (stop : Stop) (e : Session) : Type 0 where
@@ -66,8 +73,9 @@ module _ (t : Tables) (memory journal : List ℕ) (p : Position) where
   pub record Runs : Type 0 where
     pub ran : (allowance steps : ℕ) (stop : Stop) (p′ : Position) → runTables t memory journal p allowance .answer ≡ Ran steps stop p′
         → RunIs t lent allowance steps stop (ended (runTables t memory journal p allowance))
-    -- "A refusal returns its number .. and the position as given", and writes nothing
-    pub refused : (allowance number : ℕ) (p′ : Position) → runTables t memory journal p allowance .answer ≡ Refused number p′ → ended (runTables t memory journal p allowance) ≡ lent
+    -- "It makes forward's looks up to 19 first": a run is refused only where a forward is, with its number. "A refusal returns its number .. and the position as given", and writes nothing.
+    pub refused : (allowance number : ℕ) (p′ : Position) → runTables t memory journal p allowance .answer ≡ Refused number p′
+        → (ended (runTables t memory journal p allowance) ≡ lent) × (forwardFrom t lent .answer ≡ S.Refused number p)
     -- "and an allowance of 0 changes nothing"
     pub none : ended (runTables t memory journal p 0) ≡ lent
 

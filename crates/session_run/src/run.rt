@@ -106,9 +106,7 @@ pub fn run_rows(
             position,
         );
         match turn {
-            Turn::Stopped(stop, at) => {
-                return RunAnswer::Ran(taken, stop, at);
-            }
+            Turn::Stopped(stop, at) => return RunAnswer::Ran(taken, stop, at),
             Turn::Moved(next) => {
                 position = next;
                 taken += 1;

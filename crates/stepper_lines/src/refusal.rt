@@ -37,7 +37,7 @@ pub fn cause(refusal: u64) {
         a shift count is negative\n\
         the reply does not fit the CALL, or there is one and the row is no CALL\n\
         a cell that is read has no rule: its kind or its word is foreign; or a name is not declared\n\
-        the position lies past its tables, or the journal cannot be read\n\
+        the position lies past its tables or has more steps than entries, or the journal cannot be read\n\
         a label stands on two LABEL rows, or a jump goes to a label that stands on none\n\
         the condition of a jump is not declared, or not BIT",
         refusal,

@@ -78,7 +78,7 @@ unfitReply = 17
 abbrev pub noRule : ℕ
 noRule = 18
 
--- position past its tables, or journal unreadable
+-- position past its tables, or journal unreadable; 02, P4: more steps than entries, an absent row left
 abbrev pub foreignPosition : ℕ
 foreignPosition = 19
 

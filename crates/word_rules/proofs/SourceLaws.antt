@@ -11,7 +11,7 @@ use Rattle.tables.specs.declared.rows.Instruction.{Instruction}
 use Rattle.tables.specs.Cases.{caseOf}
 use Rattle.tables.specs.First.{first, every}
 use Rattle.tables.proofs.Cases.{Missed, other-arm, by-key, past-first}
-use Rattle.word_rules.specs.Instruction.{upTo, operatorsByFamily, operatorsOf, sourceByForm, sourceAllowed, formsByFamily, formAllowed, operandWordsByFamily, operandsAllowed, instructionAllowed, jumpOperatorsOf, operandWordsByJump, jumpOperandsAllowed, jumpAllowed}
+use Rattle.word_rules.specs.Instruction.{upTo, operatorsByFamily, operatorsOf, sourceByForm, sourceAllowed, formsByFamily, formAllowed, operandWordsByFamily, operandsAllowed, instructionAllowed, flowOperatorsOf, operandWordsByFlow, flowOperandsAllowed, flowAllowed}
 
 pub up-to : (x last : ℕ) → leb x last ≡ ltb x (upTo last)
 up-to x last = at (leb x last) refl
@@ -59,22 +59,22 @@ module _ (x : Instruction) (o : Bool) where
 
 -- a row of family f, as the match's arm for it tests it
 pub row-of : (nodes : List ℕ) (arguments : ℕ) (x : Instruction) {p q : Bool} (f : ℕ) → x .family ≡ f → p ≡ ltb (x .operator) (operatorsOf f)
-    → q ≡ (formAllowed f (x .«source_form») && (sourceAllowed x && caseOf f (operandWordsByFamily nodes arguments x) (caseOf f (operandWordsByJump x) false))) → (p && q) ≡ instructionAllowed nodes arguments x
-unfolding instructionAllowed operandsAllowed jumpOperandsAllowed
+    → q ≡ (formAllowed f (x .«source_form») && (sourceAllowed x && caseOf f (operandWordsByFamily nodes arguments x) (caseOf f (operandWordsByFlow x) false))) → (p && q) ≡ instructionAllowed nodes arguments x
+unfolding instructionAllowed operandsAllowed flowOperandsAllowed
 row-of nodes arguments x f e a b = rw (a, b, e)
 
 -- of families 11 to 15
-pub jump-of : (x : Instruction) {p q : Bool} (f : ℕ) → x .family ≡ f → p ≡ ltb (x .operator) (jumpOperatorsOf f)
-    → q ≡ (eqb (x .«source_form») source.none && (sourceAllowed x && caseOf f (operandWordsByJump x) false)) → (p && q) ≡ jumpAllowed x
-unfolding jumpAllowed jumpOperandsAllowed
-jump-of x f e a b = rw (a, b, e)
+pub flow-of : (x : Instruction) {p q : Bool} (f : ℕ) → x .family ≡ f → p ≡ ltb (x .operator) (flowOperatorsOf f)
+    → q ≡ (eqb (x .«source_form») source.none && (sourceAllowed x && caseOf f (operandWordsByFlow x) false)) → (p && q) ≡ flowAllowed x
+unfolding flowAllowed flowOperandsAllowed
+flow-of x f e a b = rw (a, b, e)
 
 -- the rest arm of the match on the families before them
-pub jump-rest : (nodes : List ℕ) (arguments : ℕ) (x : Instruction) → Missed (Unit {0}) operatorsByFamily (x .family) → jumpAllowed x ≡ instructionAllowed nodes arguments x
-unfolding instructionAllowed jumpAllowed operatorsOf formAllowed operandsAllowed
-jump-rest nodes arguments x past =
+pub flow-rest : (nodes : List ℕ) (arguments : ℕ) (x : Instruction) → Missed (Unit {0}) operatorsByFamily (x .family) → flowAllowed x ≡ instructionAllowed nodes arguments x
+unfolding instructionAllowed flowAllowed operatorsOf formAllowed operandsAllowed
+flow-rest nodes arguments x past =
     rw (
-      ← other-arm operatorsByFamily (jumpOperatorsOf (x .family)) (x .family) past,
+      ← other-arm operatorsByFamily (flowOperatorsOf (x .family)) (x .family) past,
       ← other-arm (formsByFamily (x .«source_form»)) (eqb (x .«source_form») source.none) (x .family) past,
-      ← other-arm (operandWordsByFamily nodes arguments x) (jumpOperandsAllowed x) (x .family) past,
+      ← other-arm (operandWordsByFamily nodes arguments x) (flowOperandsAllowed x) (x .family) past,
     )

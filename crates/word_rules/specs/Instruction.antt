@@ -36,9 +36,9 @@ operatorsByFamily =
     ∷ (family.other, upTo operator.anyOther)
     ∷ []
 
--- 02, P4: families 11 to 15 have none
-abbrev pub operatorsByJump : List (ℕ × ℕ)
-operatorsByJump =
+-- 02, P4: families 11 to 15, of control flow, have none
+abbrev pub operatorsByFlow : List (ℕ × ℕ)
+operatorsByFlow =
     (family.jump, upTo unused)
     ∷ (family.jumpWhen, upTo unused)
     ∷ (family.jumpUnless, upTo unused)
@@ -47,13 +47,13 @@ operatorsByJump =
     ∷ []
 
 -- none past the last family, so that such a number is refused
-unfoldable pub jumpOperatorsOf : ℕ → ℕ
+unfoldable pub flowOperatorsOf : ℕ → ℕ
 unfolding caseOf
-jumpOperatorsOf family = caseOf family operatorsByJump 0
+flowOperatorsOf family = caseOf family operatorsByFlow 0
 
 unfoldable pub operatorsOf : ℕ → ℕ
-unfolding caseOf jumpOperatorsOf
-operatorsOf family = caseOf family operatorsByFamily (jumpOperatorsOf family)
+unfolding caseOf flowOperatorsOf
+operatorsOf family = caseOf family operatorsByFamily (flowOperatorsOf family)
 
 -- "source form (0 integer literal, 1 real literal, 2 reference, 3 none: always and only in families 3, 5, 8, 9, 10)";
 -- "2 binary logic (no real literal)"; "6 load (.. source = offset reference)"
@@ -112,8 +112,8 @@ operandWordsByFamily nodes arguments x =
     ∷ []
 
 -- 02, P4: "First name and index are the condition, second name the label"
-abbrev pub operandWordsByJump : Instruction → List (ℕ × Bool)
-operandWordsByJump x =
+abbrev pub operandWordsByFlow : Instruction → List (ℕ × Bool)
+operandWordsByFlow x =
     let no-condition = eqb (x .«first_name») 0 && eqb (x .«first_index») 0 in
     let no-index = eqb (x .«second_index») 0 in
     (family.jump, no-condition && no-index)
@@ -123,13 +123,13 @@ operandWordsByJump x =
     ∷ (family.halt, no-condition && (eqb (x .«second_name») 0 && no-index))
     ∷ []
 
-unfoldable pub jumpOperandsAllowed : Instruction → Bool
+unfoldable pub flowOperandsAllowed : Instruction → Bool
 unfolding caseOf
-jumpOperandsAllowed x = caseOf (x .family) (operandWordsByJump x) false
+flowOperandsAllowed x = caseOf (x .family) (operandWordsByFlow x) false
 
 unfoldable pub operandsAllowed : List ℕ → ℕ → Instruction → Bool
-unfolding caseOf jumpOperandsAllowed
-operandsAllowed nodes arguments x = caseOf (x .family) (operandWordsByFamily nodes arguments x) (jumpOperandsAllowed x)
+unfolding caseOf flowOperandsAllowed
+operandsAllowed nodes arguments x = caseOf (x .family) (operandWordsByFamily nodes arguments x) (flowOperandsAllowed x)
 
 unfoldable pub instructionAllowed : List ℕ → ℕ → Instruction → Bool
 instructionAllowed nodes arguments x =
@@ -138,8 +138,8 @@ instructionAllowed nodes arguments x =
     && (sourceAllowed x && operandsAllowed nodes arguments x))
 
 -- of families 11 to 15
-unfoldable pub jumpAllowed : Instruction → Bool
-jumpAllowed x = ltb (x .operator) (jumpOperatorsOf (x .family)) && (eqb (x .«source_form») source.none && (sourceAllowed x && jumpOperandsAllowed x))
+unfoldable pub flowAllowed : Instruction → Bool
+flowAllowed x = ltb (x .operator) (flowOperatorsOf (x .family)) && (eqb (x .«source_form») source.none && (sourceAllowed x && flowOperandsAllowed x))
 
 unfoldable pub instructionsAllowed : List ℕ → ℕ → List ℕ → Bool
 instructionsAllowed nodes arguments xs = every (λ k. instructionAllowed nodes arguments (instructionAt xs k)) (instructionRows xs)

@@ -8,7 +8,7 @@ ghost use Rattle.tables.specs.Rows.{nodeRows, nodeLimit};
 ghost use Rattle.tables.specs.Ends.{EndsFrom};
 ghost use Rattle.tables.specs.Source as source;
 ghost use Rattle.word_rules.specs.Allowed.{nodesAllowed};
-ghost use Rattle.word_rules.specs.Instruction.{upTo, sourceAllowed, jumpAllowed, instructionAllowed, instructionsAllowed};
+ghost use Rattle.word_rules.specs.Instruction.{upTo, sourceAllowed, flowAllowed, instructionAllowed, instructionsAllowed};
 use crate::nodes::nodes_end;
 use tables::ends::ends_with;
 use tables::family;
@@ -67,8 +67,8 @@ fn no_source(x: Instruction, operands: bool) -> bool
 }
 
 // Families 11 to 15: no operator and no source.
-fn jump_allowed(x: Instruction) -> bool
-    ensures { λ r. ⌜ r ≡ jumpAllowed x ⌝ }
+fn flow_allowed(x: Instruction) -> bool
+    ensures { λ r. ⌜ r ≡ flowAllowed x ⌝ }
 {
     let family = x.family;
     let no_condition = (x.first_name == 0) & (x.first_index == 0);
@@ -116,7 +116,7 @@ fn instruction_allowed(nodes: &[u64], ends: &[u16], arguments: usize, x: Instruc
                 x,
                 (x.first_name == 0) & ((x.first_index == 0) & second_unused),
             ),
-        _ => jump_allowed(x),
+        _ => flow_allowed(x),
     }
 }
 

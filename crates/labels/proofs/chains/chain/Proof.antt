@@ -1,17 +1,17 @@
 use native.Mathlib.Omega.{arith}
-use Rattle.labels.proofs.ChainsLaws.{place-below, place-within}
+use Rattle.labels.proofs.ChainsLaws.{bucket-below, bucket-within}
 use borrow.Author.Needs.{needs}
 use Rattle.labels.proofs.chains.chain.Statement.{statement}
 use Rattle.labels.proofs.chains.chain.Tie as tie
 
-place-requires : tie.Need-place-requires
-place-requires c κs = search needs
+bucket-requires : tie.Need-bucket-requires
+bucket-requires c κs = search needs
 
 mul-links : tie.Need-mul-links
-mul-links c = record { fits = omega (arith, place-below (c .before .before .before .args .label), c .place .ensures) }
+mul-links c = record { fits = omega (arith, bucket-below (c .before .before .before .args .label), c .bucket .ensures) }
 
 slice-read-links : tie.Need-slice-read-links
-slice-read-links c = place-within _ (c .before .place .ensures) (c .before .before .before .before .pre .1)
+slice-read-links c = bucket-within _ (c .before .bucket .ensures) (c .before .before .before .before .pre .1)
 
 mul-links-2 : tie.Need-mul-links-2
 mul-links-2 c = search needs
@@ -23,10 +23,10 @@ cast-heads : tie.Need-cast-heads
 cast-heads c = search needs
 
 mul-heads : tie.Need-mul-heads
-mul-heads c = record { fits = omega (arith, place-below (c .before .before .before .before .args .label), c .before .place .ensures) }
+mul-heads c = record { fits = omega (arith, bucket-below (c .before .before .before .before .args .label), c .before .bucket .ensures) }
 
 slice-write-heads : tie.Need-slice-write-heads
-slice-write-heads c = place-within _ (c .before .place .ensures) (c .before .before .before .before .pre .1)
+slice-write-heads c = bucket-within _ (c .before .bucket .ensures) (c .before .before .before .before .pre .1)
 
 same-length : tie.Need-same-length
 same-length c = search needs
@@ -35,13 +35,13 @@ same-length-2 : tie.Need-same-length-2
 same-length-2 c = search needs
 
 returns : tie.Need-returns
-returns c = (rw (c .before .place .ensures), rw (c .before .place .ensures))
+returns c = (rw (c .before .bucket .ensures), rw (c .before .bucket .ensures))
 
 pub chain-spec : {M : Type 1} → statement M
 chain-spec =
     tie.close
     (tie.spec
-    place-requires
+    bucket-requires
     mul-links
     slice-read-links
     mul-links-2

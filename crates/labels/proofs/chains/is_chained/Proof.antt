@@ -11,12 +11,12 @@ returns c = rw (le-ltb _ _ (c .if1 .taken))
 instruction-at-requires : tie.Need-instruction-at-requires
 instruction-at-requires c κs = search needs
 
-place-requires : tie.Need-place-requires
-place-requires c κs = search needs
+bucket-requires : tie.Need-bucket-requires
+bucket-requires c κs = search needs
 
 returns-2 : tie.Need-returns-2
 unfolding chained
-returns-2 c = rw (lt-ltb _ _ (c .before .before .before .if1 .left), c .place .ensures, c .before .before .instruction-at .ensures)
+returns-2 c = rw (lt-ltb _ _ (c .before .before .before .if1 .left), c .bucket .ensures, c .before .before .instruction-at .ensures)
 
 pub is-chained-spec : {M : Type 1} → statement M
-is-chained-spec = tie.close (tie.spec returns instruction-at-requires place-requires returns-2)
+is-chained-spec = tie.close (tie.spec returns instruction-at-requires bucket-requires returns-2)

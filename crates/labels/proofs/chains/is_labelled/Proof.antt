@@ -3,8 +3,8 @@ use mathlib.Core.Bool.{true}
 use mathlib.Core.Path.{_≡_, sym, _∙_}
 use native.Mathlib.Omega.{arith}
 use Rattle.tables.specs.Rows.{instructionRows}
-use Rattle.labels.specs.Chains.{placeOf, chained}
-use Rattle.labels.proofs.ChainsLaws.{place-below, place-within, chained-row, Walk, walk-start, walk-met, walk-next, walk-ends}
+use Rattle.labels.specs.Chains.{bucketOf, chained}
+use Rattle.labels.proofs.ChainsLaws.{bucket-below, bucket-within, chained-row, Walk, walk-start, walk-met, walk-next, walk-ends}
 use borrow.Author.Needs.{needs}
 use Rattle.labels.proofs.chains.is_labelled.Statement.{statement}
 use Rattle.labels.proofs.chains.is_labelled.Tie as tie
@@ -15,20 +15,20 @@ Inv-loop instructions heads links n label p before₀ row₀ before row = Walk i
 abbrev μ-loop : tie.MeasureT-loop
 μ-loop instructions heads links n label p before₀ row₀ before row = before
 
-place-requires : tie.Need-place-requires Inv-loop μ-loop
-place-requires c κs = search needs
+bucket-requires : tie.Need-bucket-requires Inv-loop μ-loop
+bucket-requires c κs = search needs
 
 mul-row : tie.Need-mul-row Inv-loop μ-loop
-mul-row c = record { fits = omega (arith, place-below (c .before .before .before .before .args .label), c .place .ensures) }
+mul-row c = record { fits = omega (arith, bucket-below (c .before .before .before .before .args .label), c .bucket .ensures) }
 
 shared-slice-read-row : tie.Need-shared-slice-read-row Inv-loop μ-loop
-shared-slice-read-row c = place-within _ (c .before .place .ensures) (c .before .before .before .before .before .pre .2 .places)
+shared-slice-read-row c = bucket-within _ (c .before .bucket .ensures) (c .before .before .before .before .before .pre .2 .buckets)
 
 cast-row : tie.Need-cast-row Inv-loop μ-loop
-cast-row c = record { fits = omega (arith, c .shared-slice-known4 .given (c .before .place .result)) }
+cast-row c = record { fits = omega (arith, c .shared-slice-known4 .given (c .before .bucket .result)) }
 
 loop-holds : tie.Need-loop-holds Inv-loop μ-loop
-loop-holds c = walk-start _ _ _ _ (c .before .before .before .before .before .pre .2) _ _ (c .before .place .ensures)
+loop-holds c = walk-start _ _ _ _ (c .before .before .before .before .before .pre .2) _ _ (c .before .bucket .ensures)
 
 is-chained-requires : tie.Need-is-chained-requires Inv-loop μ-loop
 is-chained-requires c κs = omega (arith, c .loop .inv .within, c .before .before .before .before .before .before .pre .0)
@@ -40,10 +40,10 @@ turn c = c .before .before
 abbrev entry : tie.Then1 Inv-loop μ-loop → tie.Start Inv-loop μ-loop
 entry c = turn c .before .before .before .before .before .before
 
-placed : (c : tie.Then1 Inv-loop μ-loop) → turn c .before .before .place .result ≡ placeOf (entry c .args .label)
-placed c = turn c .before .before .place .ensures
+placed : (c : tie.Then1 Inv-loop μ-loop) → turn c .before .before .bucket .result ≡ bucketOf (entry c .args .label)
+placed c = turn c .before .before .bucket .ensures
 
-in-chain : (c : tie.Then1 Inv-loop μ-loop) → chained (entry c .args .instructions .now) (turn c .loop .before) (turn c .before .before .place .result) (turn c .loop .row) ≡ true
+in-chain : (c : tie.Then1 Inv-loop μ-loop) → chained (entry c .args .instructions .now) (turn c .loop .before) (turn c .before .before .bucket .result) (turn c .loop .row) ≡ true
 in-chain c = sym (c .before .is-chained .ensures) ∙ c .if1 .taken
 
 row-there : (c : tie.Then1 Inv-loop μ-loop) → turn c .loop .row < instructionRows (entry c .args .instructions .now)
@@ -78,7 +78,7 @@ returns-2 : tie.Need-returns-2 Inv-loop μ-loop
 returns-2 c =
     let loop = c .before .before in
     let entry = loop .before .before .before .before .before .before in
-    walk-ends _ _ _ _ (entry .pre .2) _ _ (loop .before .before .place .ensures) _ _ (loop .loop .inv) (sym (c .before .is-chained .ensures) ∙ c .if1 .left)
+    walk-ends _ _ _ _ (entry .pre .2) _ _ (loop .before .before .bucket .ensures) _ _ (loop .loop .inv) (sym (c .before .is-chained .ensures) ∙ c .if1 .left)
 
 pub is-labelled-spec : {M : Type 1} → statement M
 is-labelled-spec =
@@ -86,7 +86,7 @@ is-labelled-spec =
     (tie.spec
     Inv-loop
     μ-loop
-    place-requires
+    bucket-requires
     mul-row
     shared-slice-read-row
     cast-row

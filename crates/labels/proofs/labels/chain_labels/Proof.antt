@@ -58,7 +58,7 @@ loop-again c =
     (omega arith, call .chain-row .ensures .1 new, every-turn _ _ _ (turn .before .loop .inv .2) (turn .loop-test .taken) (sym (call .chain-row .ensures .0) ∙ new))
 
 same-length-3 : tie.Need-same-length-3 Inv-loop μ-loop
-same-length-3 c = c .before .loop .inv .1 .places ∙ sym (c .before .before .before .before .before .pre .1)
+same-length-3 c = c .before .loop .inv .1 .buckets ∙ sym (c .before .before .before .before .before .pre .1)
 
 same-length-4 : tie.Need-same-length-4 Inv-loop μ-loop
 same-length-4 c = c .before .loop .inv .1 .rows ∙ sym (c .before .before .before .before .before .pre .2)

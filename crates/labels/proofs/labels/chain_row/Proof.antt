@@ -55,7 +55,7 @@ returns-2 : tie.Need-returns-2
 returns-2 c = (rw (is-label (c .before .before .before .before), seen (c .before) ∙ c .if2 .taken), λ t. never t)
 
 chain-requires : tie.Need-chain-requires
-chain-requires c κs = let pre = entry (read (c .before .before .before)) .pre in (omega (arith, pre .0, pre .1), pre .2 .places, pre .2 .rows)
+chain-requires c κs = let pre = entry (read (c .before .before .before)) .pre in (omega (arith, pre .0, pre .1), pre .2 .buckets, pre .2 .rows)
 
 same-length-3 : tie.Need-same-length-3
 same-length-3 c = search needs

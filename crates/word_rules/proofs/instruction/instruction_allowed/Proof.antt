@@ -1,7 +1,7 @@
 use mathlib.Core.Path.{_∙_}
 use Rattle.tables.specs.Cases.{caseOf}
 use Rattle.tables.specs.Family as family
-use Rattle.word_rules.proofs.SourceLaws.{row-of, jump-rest}
+use Rattle.word_rules.proofs.SourceLaws.{row-of, flow-rest}
 use Rattle.word_rules.specs.Instruction.{operatorsOf, formAllowed}
 use borrow.Author.Needs.{needs}
 use Rattle.word_rules.proofs.instruction.instruction_allowed.Statement.{statement}
@@ -88,8 +88,8 @@ up-to-requires-11 c κs = search needs
 no-source-requires-5 : tie.Need-no-source-requires-5
 no-source-requires-5 c κs = search needs
 
-jump-allowed-requires : tie.Need-jump-allowed-requires
-jump-allowed-requires c κs = search needs
+flow-allowed-requires : tie.Need-flow-allowed-requires
+flow-allowed-requires c κs = search needs
 
 returns : tie.Need-returns
 unfolding caseOf operatorsOf formAllowed
@@ -136,7 +136,7 @@ unfolding caseOf operatorsOf formAllowed
 returns-11 c = row-of _ _ _ family.other (c .before .before .before .before .match .keys11) (c .before .before .before .up-to11 .ensures) (c .no-source5 .ensures)
 
 returns-12 : tie.Need-returns-12
-returns-12 c = c .jump-allowed .ensures ∙ jump-rest _ _ _ (c .before .match .rest)
+returns-12 c = c .flow-allowed .ensures ∙ flow-rest _ _ _ (c .before .match .rest)
 
 pub instruction-allowed-spec : {M : Type 1} → statement M
 instruction-allowed-spec =
@@ -166,7 +166,7 @@ instruction-allowed-spec =
     no-source-requires-4
     up-to-requires-11
     no-source-requires-5
-    jump-allowed-requires
+    flow-allowed-requires
     returns
     returns-2
     returns-3

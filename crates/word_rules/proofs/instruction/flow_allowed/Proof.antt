@@ -3,13 +3,13 @@ use borrow.Author.Tests.{le-ltb}
 use Rattle.tables.specs.Cases.{caseOf}
 use Rattle.tables.specs.Family as family
 use Rattle.tables.proofs.Cases.{other-arm}
-use Rattle.word_rules.specs.Instruction.{operatorsByJump, jumpOperatorsOf, jumpAllowed}
-use Rattle.word_rules.proofs.SourceLaws.{jump-of}
+use Rattle.word_rules.specs.Instruction.{operatorsByFlow, flowOperatorsOf, flowAllowed}
+use Rattle.word_rules.proofs.SourceLaws.{flow-of}
 use borrow.Author.Needs.{needs}
-use Rattle.word_rules.proofs.instruction.jump_allowed.Statement.{statement}
-use Rattle.word_rules.proofs.instruction.jump_allowed.Tie as tie
-use Rattle.word_rules.proofs.instruction.jump_allowed.Reads as reads
-use Rattle.word_rules.proofs.instruction.jump_allowed.Lts as lts
+use Rattle.word_rules.proofs.instruction.flow_allowed.Statement.{statement}
+use Rattle.word_rules.proofs.instruction.flow_allowed.Tie as tie
+use Rattle.word_rules.proofs.instruction.flow_allowed.Reads as reads
+use Rattle.word_rules.proofs.instruction.flow_allowed.Lts as lts
 use Rattle.word_rules.proofs.instruction.no_source.Reads as no-source-reads
 use Rattle.word_rules.proofs.instruction.up_to.Reads as up-to-reads
 
@@ -44,33 +44,33 @@ no-source-requires-5 : tie.Need-no-source-requires-5
 no-source-requires-5 c κs = search needs
 
 returns : tie.Need-returns
-unfolding caseOf jumpOperatorsOf
-returns c = jump-of _ family.jump (c .before .before .match .keys1) (c .before .up-to .ensures) (c .no-source .ensures)
+unfolding caseOf flowOperatorsOf
+returns c = flow-of _ family.jump (c .before .before .match .keys1) (c .before .up-to .ensures) (c .no-source .ensures)
 
 returns-2 : tie.Need-returns-2
-unfolding caseOf jumpOperatorsOf
-returns-2 c = jump-of _ family.jumpWhen (c .before .before .match .keys2) (c .before .up-to2 .ensures) (c .no-source2 .ensures)
+unfolding caseOf flowOperatorsOf
+returns-2 c = flow-of _ family.jumpWhen (c .before .before .match .keys2) (c .before .up-to2 .ensures) (c .no-source2 .ensures)
 
 returns-3 : tie.Need-returns-3
-unfolding caseOf jumpOperatorsOf
-returns-3 c = jump-of _ family.jumpUnless (c .before .before .match .keys3) (c .before .up-to3 .ensures) (c .no-source3 .ensures)
+unfolding caseOf flowOperatorsOf
+returns-3 c = flow-of _ family.jumpUnless (c .before .before .match .keys3) (c .before .up-to3 .ensures) (c .no-source3 .ensures)
 
 returns-4 : tie.Need-returns-4
-unfolding caseOf jumpOperatorsOf
-returns-4 c = jump-of _ family.label (c .before .before .match .keys4) (c .before .up-to4 .ensures) (c .no-source4 .ensures)
+unfolding caseOf flowOperatorsOf
+returns-4 c = flow-of _ family.label (c .before .before .match .keys4) (c .before .up-to4 .ensures) (c .no-source4 .ensures)
 
 returns-5 : tie.Need-returns-5
-unfolding caseOf jumpOperatorsOf
-returns-5 c = jump-of _ family.halt (c .before .before .before .match .keys5) (c .before .before .up-to5 .ensures) (c .no-source5 .ensures)
+unfolding caseOf flowOperatorsOf
+returns-5 c = flow-of _ family.halt (c .before .before .before .match .keys5) (c .before .before .up-to5 .ensures) (c .no-source5 .ensures)
 
 returns-6 : tie.Need-returns-6
-unfolding jumpAllowed jumpOperatorsOf
+unfolding flowAllowed flowOperatorsOf
 returns-6 c =
     let x = c .before .before .before .before .args .x in
-    rw (← other-arm operatorsByJump 0 (x .family) (c .match .rest), le-ltb (x .operator) 0 (omega arith))
+    rw (← other-arm operatorsByFlow 0 (x .family) (c .match .rest), le-ltb (x .operator) 0 (omega arith))
 
-pub jump-allowed-spec : {M : Type 1} → statement M
-jump-allowed-spec =
+pub flow-allowed-spec : {M : Type 1} → statement M
+flow-allowed-spec =
     tie.close
     (tie.spec
     up-to-requires
