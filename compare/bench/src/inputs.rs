@@ -232,7 +232,7 @@ pub enum Labels {
     /// Over all 64 bits.
     Scattered,
     /// All in one chain (docs/DECISIONS.md, L4).
-    OnePlace,
+    OneBucket,
 }
 
 impl Labels {
@@ -240,7 +240,7 @@ impl Labels {
         match self {
             Labels::Consecutive => i,
             Labels::Scattered => (i + 1).wrapping_mul(0x9E37_79B9_7F4A_7C15),
-            Labels::OnePlace => i * 1021,
+            Labels::OneBucket => i * 1021,
         }
     }
 }

@@ -35,10 +35,10 @@ fn labels() -> [(&'static str, Tables); 6] {
     [
         ("256 JUMPs and 256 LABELs", inputs::jumps(Consecutive)),
         ("256 JUMPs and 256 LABELs, scattered numbers", inputs::jumps(Scattered)),
-        ("256 JUMPs and 256 LABELs of one place", inputs::jumps(OnePlace)),
+        ("256 JUMPs and 256 LABELs of one bucket", inputs::jumps(OneBucket)),
         ("512 LABELs", inputs::labels(Consecutive)),
         ("512 LABELs, scattered numbers", inputs::labels(Scattered)),
-        ("512 LABELs of one place", inputs::labels(OnePlace)),
+        ("512 LABELs of one bucket", inputs::labels(OneBucket)),
     ]
 }
 
