@@ -4,6 +4,4 @@ pub mod Reaches
 pub mod WritesLaws
 pub mod Exchange
 pub mod Looked
-pub mod NextLaws
-pub mod ConditionLaws
-pub mod ConditionRead
+pub mod Condition

@@ -1,27 +1,23 @@
--- 02, P4: "The Rust's `type_check` doesn't look at the condition, so open does": "with 21 a condition undeclared or not BIT".
+-- A jump's condition: its step reads it, and it decides where the row leads (control_flow/specs/Next.antt).
 use Prim.Native.Nat.{ℕ}
-use mathlib.Core.Bool.{Bool, false, not, _||_}
+use mathlib.Core.Bool.{true}
 use mathlib.Core.List.{List}
-use lib.Dec.{eqb}
-use Rattle.words.specs.Kind.{bit}
-use Rattle.tables.specs.First.{every}
-use Rattle.tables.specs.Family as family
-use Rattle.tables.specs.Lookup.{lookupRegion}
-use Rattle.tables.specs.Rows.{regionKind, instructionRows, instructionAt}
-use Rattle.tables.specs.declared.lookup.Found.{Found}
-use Rattle.tables.specs.declared.lookup.Found.the-variants.{At, Nothing}
+use mathlib.Core.Path.{_≡_}
+use Rattle.tables.specs.Outcome.{ok}
 use Rattle.tables.specs.declared.rows.Instruction.{Instruction}
+use Rattle.journal.specs.declared.cells.Write.{Write}
+use Rattle.operands.specs.Cells.{conditionOf}
+use Rattle.control_flow.specs.Condition.{hasCondition}
+use Rattle.control_flow.specs.Next.{conditionCell, conditionWord}
+use Rattle.machine.specs.Outcome.{plainOutcome}
 
--- JUMP-WHEN and JUMP-UNLESS have a condition
-abbrev pub hasCondition : Instruction → Bool
-hasCondition x = eqb (x .family) family.jumpWhen || eqb (x .family) family.jumpUnless
+-- The word that decides a jump is the one that its step has read as a BIT's ("in forward only a BIT cell there has a rule"). Proved in proofs/Condition.antt.
+pub record ReadCondition (regions cells : List ℕ) (x : Instruction) : Type 0 where
+  pub cell : ℕ
+  pub found : conditionCell regions x ≡ ok cell
+  pub read : conditionOf cells cell ≡ ok (conditionWord regions cells x)
 
-abbrev pub isBit : List ℕ → Found → Bool
-isBit regions (At r) = eqb (regionKind regions r) bit
-isBit regions Nothing = false
-
-unfoldable pub conditionFits : List ℕ → Instruction → Bool
-conditionFits regions x = not (hasCondition x) || isBit regions (lookupRegion regions (x .«first_name»))
-
-unfoldable pub conditionsFit : List ℕ → List ℕ → Bool
-conditionsFit regions instructions = every (λ k. conditionFits regions (instructionAt instructions k)) (instructionRows instructions)
+abbrev pub ConditionRead : Type 0
+ConditionRead =
+    (regions cells : List ℕ) (x : Instruction) (reply : List ℕ) (ws : List Write) → hasCondition x ≡ true
+    → plainOutcome regions cells x reply ≡ ok ws → ReadCondition regions cells x

@@ -1,5 +1,3 @@
-// One row on the cells, of a row that is no CALL: a refusal, or the writes to make; and where any row leads. Nothing is written here.
-pub mod condition;
+// One row on the cells, of a row that is no CALL: a refusal, or the writes to make. Nothing is written here.
 pub mod family;
-pub mod next;
 pub mod outcome;

@@ -20,7 +20,7 @@ use Rattle.journal.specs.Position.{advanced}
 use Rattle.journal.proofs.CellsLaws.{each-map, held-applied}
 use Rattle.journal.proofs.EntriesLaws.{length-journaled, journaled-between}
 use Rattle.machine.specs.Outcome.{isCall}
-use Rattle.machine.specs.Next.{nextRow}
+use Rattle.control_flow.specs.Next.{nextRow}
 use Rattle.session.specs.Prepare.{entriesOf}
 use Rattle.session.specs.Position.{placedLook}
 use Rattle.session.specs.Leaves.{withTail}

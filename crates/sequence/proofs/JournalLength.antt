@@ -18,7 +18,7 @@ use Rattle.journal.specs.declared.cells.Write.{Write}
 use Rattle.journal.specs.Each.{Each}
 use Rattle.machine.specs.Outcome.{outcomeAt}
 use Rattle.machine.proofs.WritesLaws.{changes}
-use Rattle.machine.proofs.NextLaws.{next-past}
+use Rattle.control_flow.proofs.NextLaws.{next-past}
 use Rattle.call_reply.specs.Call.{replyLimit}
 use Rattle.operands.specs.Reach.{Laid}
 use Rattle.session.specs.Prepare.{entriesOf}

@@ -16,7 +16,7 @@ use Rattle.type_rules.specs.declared.error.Verdict.the-variants as T
 use Rattle.journal.specs.Position.{firstPosition}
 use Rattle.journal.specs.Cells.{cellWidth}
 use Rattle.operands.specs.Kinds.{zeros}
-use Rattle.machine.specs.Condition.{conditionsFit}
+use Rattle.control_flow.specs.Condition.{conditionsFit}
 use Rattle.session.specs.Prepare.{tablesLook, preparedOf}
 use Rattle.session.specs.Leaves.{withTail}
 use Rattle.session.specs.declared.answer.OpenAnswer.the-variants.{Opened}

@@ -19,7 +19,7 @@ use Rattle.journal.proofs.CellsLaws.{each-map, length-applied, applied-each}
 use Rattle.journal.proofs.EntriesLaws.{length-olds, entries-log}
 use Rattle.journal.proofs.RestoreLaws.{present-log}
 use Rattle.machine.specs.Outcome.{outcomeAt}
-use Rattle.machine.proofs.NextLaws.{next-within}
+use Rattle.control_flow.proofs.NextLaws.{next-within}
 use Rattle.session.specs.Prepare.{entriesOf, preparedOf}
 use Rattle.session.specs.Position.{positionFits}
 use Rattle.session.proofs.PositionLaws.{fits-is}

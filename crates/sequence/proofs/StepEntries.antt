@@ -17,7 +17,7 @@ use Rattle.call_reply.specs.Call.{replyLimit}
 use Rattle.operands.specs.Reach.{Laid}
 use Rattle.operands.proofs.Binds.{bound}
 use Rattle.machine.specs.Outcome.{outcomeAt}
-use Rattle.machine.specs.Next.{nextRow}
+use Rattle.control_flow.specs.Next.{nextRow}
 use Rattle.session.specs.Prepare.{entriesOf, preparedOf}
 use Rattle.session.specs.Position.{placedLook, roomFor}
 use Rattle.session.specs.Leaves.{withTail}

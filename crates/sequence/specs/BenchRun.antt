@@ -40,8 +40,8 @@ use Rattle.operands.specs.Address.{addressOf, indexFits, indexedOf, namedOf, na
 use Rattle.operators.specs.Operators.{integerResult, arithmeticResult, logicResult}
 use Rattle.machine.specs.Families as families
 use Rattle.machine.specs.Outcome.{plainOutcome, outcomeOf, outcomeAt}
-use Rattle.machine.specs.Next.{nextRow}
-use Rattle.machine.specs.Condition.{conditionFits, conditionsFit}
+use Rattle.control_flow.specs.Next.{nextRow}
+use Rattle.control_flow.specs.Condition.{conditionFits, conditionsFit}
 use Rattle.session.specs.Prepare.{tablesLook, buffersFit, preparedOf}
 use Rattle.session.specs.Position.{positionFits, placedLook, roomFor}
 use Rattle.session.specs.Leaves.{withTail}

@@ -12,7 +12,7 @@ use Rattle.journal.specs.declared.position.Position.{Position}
 use Rattle.journal.specs.Cells.{applied}
 use Rattle.operands.specs.Kinds.{zeros}
 use Rattle.machine.specs.Outcome.{outcomeAt}
-use Rattle.machine.specs.Next.{nextRow}
+use Rattle.control_flow.specs.Next.{nextRow}
 use Rattle.session.specs.Prepare.{entriesOf, preparedOf}
 use Rattle.session.specs.declared.answer.StepAnswer.{StepAnswer}
 use Rattle.session.specs.declared.answer.StepAnswer.the-variants.{Moved, Refused}

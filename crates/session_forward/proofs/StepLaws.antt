@@ -22,7 +22,7 @@ use Rattle.journal.specs.Position.{advanced}
 use Rattle.journal.specs.Cells.{cellWidth, applied}
 use Rattle.journal.specs.Entries.{entryWidth, journaled}
 use Rattle.machine.specs.Outcome.{outcomeOf, outcomeAt}
-use Rattle.machine.specs.Next.{nextRow}
+use Rattle.control_flow.specs.Next.{nextRow}
 use Rattle.operands.specs.Reach.{There, Layout}
 use Rattle.operands.proofs.Reaches.{in-cells}
 use Rattle.machine.proofs.WritesLaws.{Within}

@@ -14,7 +14,7 @@ use Rattle.journal.specs.Position.{advanced}
 use Rattle.journal.specs.Cells.{cellWidth, applied}
 use Rattle.journal.specs.Entries.{journaled}
 use Rattle.machine.specs.Outcome.{outcomeAt}
-use Rattle.machine.specs.Next.{nextRow}
+use Rattle.control_flow.specs.Next.{nextRow}
 use Rattle.session.specs.Prepare.{entriesOf}
 use Rattle.session.specs.Position.{placedLook, roomFor}
 use Rattle.session.specs.Leaves.{Leaves, leaves, withTail}
@@ -45,7 +45,7 @@ abbrev pub left : StepAnswer → List ℕ → List ℕ → Left
 left = leaves
 
 -- on the cells: "A refusal returns its number .. and the position as given", and writes nothing
--- A step with these writes leads to row `next` (machine/specs/Next.antt).
+-- A step with these writes leads to row `next` (control_flow/specs/Next.antt).
 unfoldable pub stepped : List ℕ → List ℕ → Position → ℕ → Outcome (List Write) → Left
 stepped cells journal p next (refuse number) = left (Refused number p) cells journal
 stepped cells journal p next (ok ws) = left (Moved (advanced p next (length ws))) (applied cells ws) (journaled journal (p .used) (p .row) cells ws)

@@ -22,7 +22,7 @@ use Rattle.journal.specs.Cells.{cellWidth}
 use Rattle.operands.specs.Kinds.{zeros}
 use Rattle.operands.specs.Reach.{Layout}
 use Rattle.machine.specs.Outcome.{isCall, isOther}
-use Rattle.machine.specs.Condition.{conditionsFit}
+use Rattle.control_flow.specs.Condition.{conditionsFit}
 use Rattle.session.specs.Prepare.{tablesLook, preparedOf}
 use Rattle.session.specs.Leaves.{Leaves, leaves, withTail}
 use Rattle.session.specs.declared.answer.OpenAnswer.{OpenAnswer}

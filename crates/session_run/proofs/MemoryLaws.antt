@@ -16,7 +16,7 @@ use Rattle.journal.specs.Cells.{cellWidth}
 use Rattle.journal.proofs.CellsLaws.{length-applied}
 use Rattle.journal.proofs.EntriesLaws.{length-journaled}
 use Rattle.machine.specs.Outcome.{isCall}
-use Rattle.machine.specs.Next.{nextRow}
+use Rattle.control_flow.specs.Next.{nextRow}
 use Rattle.session.specs.Prepare.{entriesOf, preparedOf}
 use Rattle.session.specs.Position.{positionFits, placedLook}
 use Rattle.session.specs.Leaves.{extended}

@@ -16,7 +16,7 @@ use Rattle.journal.specs.declared.cells.Write.{Write}
 use Rattle.journal.specs.declared.position.Position.{Position}
 use Rattle.journal.specs.Cells.{cellWidth}
 use Rattle.machine.specs.Outcome.{isCall}
-use Rattle.machine.specs.Next.{nextRow}
+use Rattle.control_flow.specs.Next.{nextRow}
 use Rattle.operands.proofs.Binds.{bound}
 use Rattle.session.specs.Answer.{positionOf}
 use Rattle.session.specs.Leaves.{extended, withTail}

@@ -6,7 +6,7 @@ use Rattle.tables.specs.Refusal.{foreignPosition}
 use Rattle.tables.specs.Outcome.{need}
 use Rattle.tables.specs.Tables.{Tables}
 use Rattle.journal.specs.declared.position.Position.{Position}
-use Rattle.machine.specs.Next.{nextRow}
+use Rattle.control_flow.specs.Next.{nextRow}
 use Rattle.session.specs.Prepare.{entriesOf}
 use Rattle.session.specs.Position.{positionFits}
 use Rattle.session_forward.specs.Forward.{stepped}

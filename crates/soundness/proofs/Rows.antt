@@ -25,7 +25,7 @@ use Rattle.journal.specs.Each.{none}
 use Rattle.tables.specs.Names.{unused, reference, Operands, operands, operandsByFamily, operandsOf, isName, hasIndex, namesFirst, namesSecond, indexesFirst, indexesSecond, namesSource}
 use Rattle.operands.specs.Cells.{sourceOf}
 use Rattle.machine.specs.Families.{noWrites, conditionalOf, families, familyOf}
-use Rattle.machine.specs.Condition.{hasCondition}
+use Rattle.control_flow.specs.Condition.{hasCondition}
 use Rattle.machine.specs.Outcome.{plainOutcome}
 use Rattle.operands.specs.declared.address.NamedRegions.{NamedRegions}
 use Rattle.operands.specs.declared.address.Addresses.{Addresses}

@@ -24,8 +24,8 @@ use Rattle.journal.specs.Each.{Each}
 use Rattle.journal.proofs.CellsLaws.{each-map}
 use Rattle.call_reply.specs.Call.{callOutcome}
 use Rattle.machine.specs.Outcome.{isCall, isOther, plainOutcome, outcomeOf, outcomeAt}
-use Rattle.machine.specs.Condition.{conditionFits, conditionsFit}
-use Rattle.machine.proofs.ConditionLaws.{condition-bit}
+use Rattle.control_flow.specs.Condition.{conditionFits, conditionsFit}
+use Rattle.control_flow.proofs.ConditionLaws.{condition-bit}
 use Rattle.machine.proofs.Ends.{Ends, unmet, Ruled, tested, weaken, gives, never-met}
 use Rattle.operands.specs.Typed.{Typed}
 use Rattle.soundness.specs.Sound.{Checked, GoodWrite, Sound}

@@ -19,7 +19,7 @@ use Rattle.operands.specs.Kinds.{zeros}
 use Rattle.operands.specs.Reach.{Laid}
 use Rattle.operands.specs.Typed.{Fits, Typed}
 use Rattle.machine.specs.Outcome.{outcomeAt}
-use Rattle.machine.specs.Condition.{conditionsFit}
+use Rattle.control_flow.specs.Condition.{conditionsFit}
 use Rattle.soundness.specs.WriteSet.{MayChange}
 
 -- ---- what it rests on

@@ -3,7 +3,7 @@ use mathlib.Core.Path.{_≡_, sym, _∙_}
 use borrow.Author.Tests.{not-true, not-false}
 use Rattle.tables.specs.Outcome.{_>>_, need}
 use Rattle.labels.specs.Labels.{labelsFit}
-use Rattle.machine.specs.Condition.{conditionsFit}
+use Rattle.control_flow.specs.Condition.{conditionsFit}
 use Rattle.session_open.specs.Open.{noOther, programLook}
 use borrow.Author.Needs.{needs}
 use Rattle.session_open.proofs.program.program_look.Statement.{statement}

@@ -1,6 +1,6 @@
 use borrow.Author.Needs.{needs}
-use Rattle.machine.proofs.next.jump_row.Statement.{statement}
-use Rattle.machine.proofs.next.jump_row.Tie as tie
+use Rattle.control_flow.proofs.next.jump_row.Statement.{statement}
+use Rattle.control_flow.proofs.next.jump_row.Tie as tie
 
 label-row-requires : tie.Need-label-row-requires
 label-row-requires c κs = search needs

@@ -18,7 +18,7 @@ use Rattle.labels.specs.Labels.{isJump, labelAt, labelRow}
 use Rattle.labels.proofs.LabelsLaws.{label-row-within}
 use Rattle.operands.specs.Address.{indexedOf}
 use Rattle.operands.specs.Cells.{cellWord}
-use Rattle.machine.specs.Next.{conditionCell, conditionWord, jumpOn, leads, nextRow}
+use Rattle.control_flow.specs.Next.{conditionCell, conditionWord, jumpOn, leads, nextRow}
 
 -- ---- the condition's word, as it is looked up
 

@@ -1,6 +1,6 @@
 // Refusal 21: a jump's condition is a declared BIT.
 ghost use mathlib.Core.Path.{_≡_};
-ghost use Rattle.machine.specs.Condition.{hasCondition, conditionFits, conditionsFit};
+ghost use Rattle.control_flow.specs.Condition.{hasCondition, conditionFits, conditionsFit};
 use tables::family;
 use tables::lookup::Found;
 use tables::lookup::lookup_region;

@@ -12,7 +12,7 @@ use Rattle.tables.specs.declared.lookup.Found.{Found}
 use Rattle.tables.specs.declared.lookup.Found.the-variants.{At, Nothing}
 use Rattle.tables.specs.declared.rows.Instruction.{Instruction}
 use Rattle.tables.proofs.FirstLaws.{never}
-use Rattle.machine.specs.Condition.{hasCondition, isBit, conditionFits}
+use Rattle.control_flow.specs.Condition.{hasCondition, isBit, conditionFits}
 
 module _ (regions : List ℕ) (x : Instruction) where
   fits-by : {t : Bool} {f : Found} → hasCondition x ≡ t → lookupRegion regions (x .«first_name») ≡ f → (not t || isBit regions f) ≡ conditionFits regions x

@@ -8,10 +8,10 @@ use Rattle.operands.specs.Address.{indexedOf, indexedOutcome}
 use Rattle.operands.specs.Reach.{There}
 use Rattle.operands.proofs.AddressLaws.{indexed-within}
 use Rattle.operands.proofs.Reaches.{in-cells}
-use Rattle.machine.proofs.NextLaws.{word-undeclared, word-past, word-there}
+use Rattle.control_flow.proofs.NextLaws.{word-undeclared, word-past, word-there}
 use borrow.Author.Needs.{needs}
-use Rattle.machine.proofs.next.condition_word.Statement.{statement}
-use Rattle.machine.proofs.next.condition_word.Tie as tie
+use Rattle.control_flow.proofs.next.condition_word.Statement.{statement}
+use Rattle.control_flow.proofs.next.condition_word.Tie as tie
 
 -- ---- the places: the region was found, and the cell
 

@@ -5,11 +5,11 @@ use Rattle.tables.specs.Lookup.{lookupRegion}
 use Rattle.tables.specs.declared.lookup.Found.the-variants.{At}
 use Rattle.tables.specs.declared.rows.Region.{Region}
 use Rattle.tables.proofs.LookupLaws.{region-row}
-use Rattle.machine.specs.Condition.{hasCondition}
-use Rattle.machine.proofs.ConditionLaws.{unconditioned, condition-undeclared, condition-kind}
+use Rattle.control_flow.specs.Condition.{hasCondition}
+use Rattle.control_flow.proofs.ConditionLaws.{unconditioned, condition-undeclared, condition-kind}
 use borrow.Author.Needs.{needs}
-use Rattle.machine.proofs.condition.condition_fits.Statement.{statement}
-use Rattle.machine.proofs.condition.condition_fits.Tie as tie
+use Rattle.control_flow.proofs.condition.condition_fits.Statement.{statement}
+use Rattle.control_flow.proofs.condition.condition_fits.Tie as tie
 
 -- ---- the places: the row has a condition, and its region was found
 

@@ -5,7 +5,7 @@ ghost use Prim.Native.Nat.{_+_, _^_, _<_};
 ghost use Rattle.tables.specs.Rows.{instructionRows};
 ghost use Rattle.labels.specs.Labels.{labelRow};
 ghost use Rattle.operands.specs.Reach.{Layout};
-ghost use Rattle.machine.specs.Next.{conditionWord, nextRow};
+ghost use Rattle.control_flow.specs.Next.{conditionWord, nextRow};
 use journal::cells::CELL_WIDTH;
 use labels::labels::label_row;
 use operands::address::Indexed;

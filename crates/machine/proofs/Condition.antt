@@ -22,10 +22,11 @@ use Rattle.operands.specs.Cells.{cellWord, readOf, readWord, conditionOf}
 use Rattle.operands.specs.declared.address.NamedRegions.{NamedRegions}
 use Rattle.operands.specs.declared.address.Addresses.{Addresses}
 use Rattle.operands.proofs.Binds.{bound}
+use Rattle.control_flow.specs.Condition.{hasCondition}
+use Rattle.control_flow.specs.Next.{conditionCell, wordOn, conditionWord}
 use Rattle.machine.specs.Families.{noWrites, families, conditionalOf, familyOf}
-use Rattle.machine.specs.Condition.{hasCondition}
 use Rattle.machine.specs.Outcome.{plainOutcome}
-use Rattle.machine.specs.Next.{conditionCell, wordOn, conditionWord, ReadCondition, ConditionRead}
+use Rattle.machine.specs.Condition.{ReadCondition, ConditionRead}
 
 module _ (regions cells : List ℕ) (x : Instruction) where
   -- what a family with a condition looks at and does

@@ -4,11 +4,11 @@ use Rattle.tables.specs.First.{everyFrom}
 use Rattle.tables.specs.Rows.{instructionRows, instructionAt}
 use Rattle.tables.specs.declared.rows.Instruction.{Instruction}
 use Rattle.tables.proofs.FirstLaws.{every-start, every-stop, every-turn, every-end}
-use Rattle.machine.specs.Condition.{conditionFits, conditionsFit}
+use Rattle.control_flow.specs.Condition.{conditionFits, conditionsFit}
 use borrow.Author.Tests.{not-true, not-false}
 use borrow.Author.Needs.{needs}
-use Rattle.machine.proofs.condition.conditions_fit.Statement.{statement}
-use Rattle.machine.proofs.condition.conditions_fit.Tie as tie
+use Rattle.control_flow.proofs.condition.conditions_fit.Statement.{statement}
+use Rattle.control_flow.proofs.condition.conditions_fit.Tie as tie
 
 abbrev Inv-loop : tie.InvT-loop
 Inv-loop regions instructions rows row₀ row =

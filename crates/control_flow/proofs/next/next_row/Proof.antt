@@ -1,7 +1,7 @@
-use Rattle.machine.proofs.NextLaws.{jump-leads, when-leads, unless-leads, halt-leads, other-leads}
+use Rattle.control_flow.proofs.NextLaws.{jump-leads, when-leads, unless-leads, halt-leads, other-leads}
 use borrow.Author.Needs.{needs}
-use Rattle.machine.proofs.next.next_row.Statement.{statement}
-use Rattle.machine.proofs.next.next_row.Tie as tie
+use Rattle.control_flow.proofs.next.next_row.Statement.{statement}
+use Rattle.control_flow.proofs.next.next_row.Tie as tie
 
 instruction-at-requires : tie.Need-instruction-at-requires
 instruction-at-requires c κs = search needs

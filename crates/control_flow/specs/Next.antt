@@ -1,8 +1,7 @@
 -- 02, P4: "A taken jump goes to its LABEL's row (WHEN on 1, UNLESS on 0), HALT to the end." Where a row leads, by the cells before its step.
 use Prim.Native.Nat.{ℕ, _+_}
-use mathlib.Core.Bool.{true, cond}
+use mathlib.Core.Bool.{cond}
 use mathlib.Core.List.{List, [], _∷_}
-use mathlib.Core.Path.{_≡_}
 use lib.Dec.{eqb}
 use Rattle.tables.specs.Cases.{caseOf}
 use Rattle.tables.specs.Family as family
@@ -11,11 +10,8 @@ use Rattle.tables.specs.Outcome.{Outcome, ok, refuse, _>>=_}
 use Rattle.tables.specs.Rows.{instructionRows, instructionAt}
 use Rattle.tables.specs.declared.rows.Instruction.{Instruction}
 use Rattle.labels.specs.Labels.{labelAt, labelRow}
-use Rattle.journal.specs.declared.cells.Write.{Write}
 use Rattle.operands.specs.Address.{foundRegion, indexedOf}
-use Rattle.operands.specs.Cells.{cellWord, conditionOf}
-use Rattle.machine.specs.Condition.{hasCondition}
-use Rattle.machine.specs.Outcome.{plainOutcome}
+use Rattle.operands.specs.Cells.{cellWord}
 
 -- "First name and index are the condition": its cell
 unfoldable pub conditionCell : List ℕ → Instruction → Outcome ℕ
@@ -48,14 +44,3 @@ leads regions instructions cells row =
 -- every other row, LABEL too, leads to the next one
 unfoldable pub nextRow : List ℕ → List ℕ → List ℕ → ℕ → ℕ
 nextRow regions instructions cells row = caseOf (instructionAt instructions row .family) (leads regions instructions cells row) (row + 1)
-
--- The word that decides a jump is the one that its step has read as a BIT's ("in forward only a BIT cell there has a rule"). Proved in proofs/ConditionRead.antt.
-pub record ReadCondition (regions cells : List ℕ) (x : Instruction) : Type 0 where
-  pub cell : ℕ
-  pub found : conditionCell regions x ≡ ok cell
-  pub read : conditionOf cells cell ≡ ok (conditionWord regions cells x)
-
-abbrev pub ConditionRead : Type 0
-ConditionRead =
-    (regions cells : List ℕ) (x : Instruction) (reply : List ℕ) (ws : List Write) → hasCondition x ≡ true
-    → plainOutcome regions cells x reply ≡ ok ws → ReadCondition regions cells x

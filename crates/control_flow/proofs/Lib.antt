@@ -1,0 +1,3 @@
+-- Laws that the proofs share, here and in the crates above.
+pub mod ConditionLaws
+pub mod NextLaws

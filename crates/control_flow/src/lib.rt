@@ -1,0 +1,3 @@
+// Where a row leads, and refusal 21.
+pub mod condition;
+pub mod next;
