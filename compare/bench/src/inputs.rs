@@ -253,6 +253,11 @@ fn jump(number: u64) -> [u64; INSTRUCTION] {
     [11, 0, 0, 0, number, 0, 3, 0, 0]
 }
 
+/// A JUMP-UNLESS on a BIT of the last region that has one, which is 0.
+fn unless(number: u64) -> [u64; INSTRUCTION] {
+    [13, 0, region(60), 63, number, 0, 3, 0, 0]
+}
+
 /// Every table at its limit, with these 512 rows.
 fn limits_with(rows: impl Iterator<Item = [u64; INSTRUCTION]>) -> Tables {
     Tables { instructions: rows.flatten().collect(), ..limits() }
@@ -268,18 +273,25 @@ pub fn labels(labels: Labels) -> Tables {
     limits_with((0..512).map(|i| label(labels.number(i))))
 }
 
-/// LABELs and JUMP-UNLESSes in turn, each jump to the LABEL before the next, by a BIT of the last region that has one.
+/// LABELs and JUMP-UNLESSes in turn, each jump to the LABEL before the next.
 pub fn ring() -> Tables {
     let number = |i: u64| Labels::Scattered.number(i % 256);
-    let unless = |i| [13, 0, region(60), 63, number(i + 1), 0, 3, 0, 0];
-    limits_with((0..512).map(|i| if i % 2 == 0 { label(number(i / 2)) } else { unless(i / 2) }))
+    limits_with((0..512).map(|i| if i % 2 == 0 { label(number(i / 2)) } else { unless(number(i / 2 + 1)) }))
 }
 
-/// `limits` with a loop of LABEL and JUMP in place of its last two rows, and its row.
-pub fn loop_last() -> (Tables, u64) {
+pub fn jump_last() -> (Tables, u64) {
+    loop_last(jump(7))
+}
+
+pub fn unless_last() -> (Tables, u64) {
+    loop_last(unless(7))
+}
+
+/// `limits` with a loop of LABEL 7 and a jump in place of its last two rows, and its row.
+fn loop_last(jump: [u64; INSTRUCTION]) -> (Tables, u64) {
     let mut tables = limits();
     let first = tables.instructions.len() - 2 * INSTRUCTION;
-    tables.instructions.splice(first.., [label(7), jump(7)].concat());
+    tables.instructions.splice(first.., [label(7), jump].concat());
     (tables, (first / INSTRUCTION) as u64)
 }
 

@@ -20,10 +20,12 @@ const RUN: f64 = 60.0;
 
 pub fn all() -> Vec<Case> {
     let mut cases: Vec<Case> = labels().iter().flat_map(|(what, tables)| press(what, tables)).collect();
-    let limits = |what| format!("every table at its limit, {what}");
+    let limits = |what: &str| format!("every table at its limit, {what}");
     cases.push(run(limits("256 LABELs and 256 JUMP-UNLESSes in a ring"), Some(RUN), inputs::ring(), 0, STEPS));
-    let (tables, row) = inputs::loop_last();
-    cases.push(run(limits("a loop of LABEL and JUMP in the last rows"), Some(RUN), tables, row, STEPS));
+    for (jump, (tables, row)) in [("JUMP", inputs::jump_last()), ("JUMP-UNLESS", inputs::unless_last())] {
+        let what = format!("a loop of LABEL and {jump} in the last rows");
+        cases.push(run(limits(&what), Some(RUN), tables, row, STEPS));
+    }
     cases.push(run("8 regions, a loop of LABEL and JUMP".to_string(), None, inputs::small_loop(), 0, STEPS));
     let (tables, steps) = inputs::countdown(STEPS);
     cases.push(run("8 regions, a cell counted down to 0".to_string(), None, tables, 0, steps));

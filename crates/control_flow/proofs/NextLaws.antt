@@ -5,6 +5,7 @@ use mathlib.Core.List.{List, [], _∷_}
 use mathlib.Core.Path.{_≡_, refl, sym, ap, ap₂, _∙_}
 use native.Mathlib.Omega.{arith}
 use lib.Dec.{eqb}
+use lib.ListN.{getD}
 use Rattle.tables.specs.Cases.{caseOf}
 use Rattle.tables.specs.Family as family
 use Rattle.tables.specs.Lookup.{lookupRegion}
@@ -15,6 +16,7 @@ use Rattle.tables.specs.declared.rows.Instruction.{Instruction}
 use Rattle.tables.proofs.Cases.{Missed, other-arm, at-key, by-key, past-keys}
 use Rattle.tables.proofs.FirstLaws.{never}
 use Rattle.labels.specs.Labels.{isJump, labelAt, labelRow}
+use Rattle.labels.specs.Targets.{Targets}
 use Rattle.labels.proofs.LabelsLaws.{label-row-within}
 use Rattle.operands.specs.Address.{indexedOf}
 use Rattle.operands.specs.Cells.{cellWord}
@@ -42,26 +44,28 @@ module _ (regions instructions cells : List ℕ) (row : ℕ) {x : Instruction} (
   unfolding nextRow
   by-family q = at-key (leads regions instructions cells row) (row + 1) (ap (λ (y : Instruction). y .family) (sym is) ∙ q)
 
-  target : labelRow instructions (x .«second_name») ≡ labelRow instructions (labelAt instructions row)
-  target = ap (λ (y : Instruction). labelRow instructions (y .«second_name»)) is
+  module _ {targets : List ℕ} (kept : Targets instructions targets (instructionRows instructions)) (there : row < instructionRows instructions) where
+    -- a jump's target, as it is kept
+    target : isJump x ≡ true → getD targets row 0 ≡ labelRow instructions (labelAt instructions row)
+    target e = kept .each row there (ap (λ (y : Instruction). isJump y) (sym is) ∙ e)
 
-  on-word : (on : ℕ) {w n : ℕ} → w ≡ conditionWord regions cells x → n ≡ cond (eqb w on) (labelRow instructions (x .«second_name»)) (row + 1)
-      → n ≡ jumpOn on (conditionWord regions cells (instructionAt instructions row)) (labelRow instructions (labelAt instructions row)) row
-  on-word on ew e = e ∙ ap₂ (λ (v r : ℕ). jumpOn on v r row) (ew ∙ ap (conditionWord regions cells) is) target
+    on-word : (on : ℕ) {w n : ℕ} → isJump x ≡ true → w ≡ conditionWord regions cells x → n ≡ cond (eqb w on) (getD targets row 0) (row + 1)
+        → n ≡ jumpOn on (conditionWord regions cells (instructionAt instructions row)) (labelRow instructions (labelAt instructions row)) row
+    on-word on j ew e = e ∙ ap₂ (λ (v r : ℕ). jumpOn on v r row) (ew ∙ ap (conditionWord regions cells) is) (target j)
 
-  pub jump-leads : {n : ℕ} → x .family ≡ family.jump → n ≡ labelRow instructions (x .«second_name») → n ≡ nextRow regions instructions cells row
-  unfolding caseOf
-  jump-leads q e = e ∙ target ∙ by-family q
+    pub jump-leads : x .family ≡ family.jump → getD targets row 0 ≡ nextRow regions instructions cells row
+    unfolding caseOf
+    jump-leads q = target (rw q) ∙ by-family q
 
-  pub when-leads : {w n : ℕ} → x .family ≡ family.jumpWhen → w ≡ conditionWord regions cells x
-      → n ≡ cond (eqb w 1) (labelRow instructions (x .«second_name»)) (row + 1) → n ≡ nextRow regions instructions cells row
-  unfolding caseOf
-  when-leads q ew e = on-word 1 ew e ∙ by-family q
+    pub when-leads : {w n : ℕ} → x .family ≡ family.jumpWhen → w ≡ conditionWord regions cells x
+        → n ≡ cond (eqb w 1) (getD targets row 0) (row + 1) → n ≡ nextRow regions instructions cells row
+    unfolding caseOf
+    when-leads q ew e = on-word 1 (rw q) ew e ∙ by-family q
 
-  pub unless-leads : {w n : ℕ} → x .family ≡ family.jumpUnless → w ≡ conditionWord regions cells x
-      → n ≡ cond (eqb w 0) (labelRow instructions (x .«second_name»)) (row + 1) → n ≡ nextRow regions instructions cells row
-  unfolding caseOf
-  unless-leads q ew e = on-word 0 ew e ∙ by-family q
+    pub unless-leads : {w n : ℕ} → x .family ≡ family.jumpUnless → w ≡ conditionWord regions cells x
+        → n ≡ cond (eqb w 0) (getD targets row 0) (row + 1) → n ≡ nextRow regions instructions cells row
+    unfolding caseOf
+    unless-leads q ew e = on-word 0 (rw q) ew e ∙ by-family q
 
   pub halt-leads : x .family ≡ family.halt → instructionRows instructions ≡ nextRow regions instructions cells row
   unfolding caseOf

@@ -20,8 +20,10 @@ abbrev pub isBit : List ℕ → Found → Bool
 isBit regions (At r) = eqb (regionKind regions r) bit
 isBit regions Nothing = false
 
+-- no "condition undeclared or not BIT": of one row
 unfoldable pub conditionFits : List ℕ → Instruction → Bool
 conditionFits regions x = not (hasCondition x) || isBit regions (lookupRegion regions (x .«first_name»))
 
+-- and of the program
 unfoldable pub conditionsFit : List ℕ → List ℕ → Bool
 conditionsFit regions instructions = every (λ k. conditionFits regions (instructionAt instructions k)) (instructionRows instructions)

@@ -31,6 +31,7 @@ conditionWord regions cells x = wordOn cells (conditionCell regions x)
 abbrev pub jumpOn : ℕ → ℕ → ℕ → ℕ → ℕ
 jumpOn on word target row = cond (eqb word on) target (row + 1)
 
+-- the rows that lead elsewhere than to the next, by their family
 abbrev pub leads : List ℕ → List ℕ → List ℕ → ℕ → List (ℕ × ℕ)
 leads regions instructions cells row =
     let target = labelRow instructions (labelAt instructions row) in

@@ -3,11 +3,10 @@ ghost use mathlib.Core.Path.{_≡_};
 ghost use mathlib.Core.Bool.{cond};
 ghost use Prim.Native.Nat.{_+_, _^_, _<_};
 ghost use Rattle.tables.specs.Rows.{instructionRows};
-ghost use Rattle.labels.specs.Labels.{labelRow};
+ghost use Rattle.labels.specs.Targets.{Targets};
 ghost use Rattle.operands.specs.Reach.{Layout};
 ghost use Rattle.control_flow.specs.Next.{conditionWord, nextRow};
 use journal::cells::CELL_WIDTH;
-use labels::labels::label_row;
 use operands::address::Indexed;
 use operands::address::index_cell;
 use tables::family;
@@ -32,32 +31,38 @@ fn condition_word(regions: &[u64], cells: &[u64], x: Instruction) -> u64
 }
 
 // A taken jump's target, or the next row.
-fn jump_row(instructions: &[u64], taken: bool, label: u64, row: usize) -> usize
+fn jump_row(taken: bool, target: usize, row: usize) -> usize
     requires { ⌜ row + 1 < 2 ^ 64 ⌝ }
-    ensures { λ r. ⌜ r ≡ cond taken (labelRow (now (instructions .entry)) label) (row + 1) ⌝ }
+    ensures { λ r. ⌜ r ≡ cond taken target (row + 1) ⌝ }
 {
     if taken {
-        return label_row(instructions, label);
+        return target;
     }
     row + 1
 }
 
-pub fn next_row(regions: &[u64], instructions: &[u64], cells: &[u64], row: usize) -> usize
-    requires { ⌜ Layout (now regions) (now cells) × (row < instructionRows (now instructions)) ⌝ }
+// The jumps' targets were found before.
+pub fn next_row(
+    regions: &[u64],
+    instructions: &[u64],
+    targets: &[u16],
+    cells: &[u64],
+    row: usize,
+) -> usize
+    requires { ⌜ Layout (now regions) (now cells) × (row < instructionRows (now instructions)) × Targets (now instructions) (now targets) (instructionRows (now instructions)) ⌝ }
     ensures { λ r. ⌜ r ≡ nextRow (now (regions .entry)) (now (instructions .entry)) (now (cells .entry)) row ⌝ }
 {
     let x = instruction_at(instructions, row);
     let family = x.family;
-    let label = x.second_name;
     match family {
-        family::JUMP => label_row(instructions, label),
+        family::JUMP => targets[row] as usize,
         family::JUMP_WHEN => {
             let word = condition_word(regions, cells, x);
-            jump_row(instructions, word == 1, label, row)
+            jump_row(word == 1, targets[row] as usize, row)
         }
         family::JUMP_UNLESS => {
             let word = condition_word(regions, cells, x);
-            jump_row(instructions, word == 0, label, row)
+            jump_row(word == 0, targets[row] as usize, row)
         }
         family::HALT => instructions.len() / INSTRUCTION_WIDTH,
         _ => row + 1,

@@ -5,7 +5,7 @@ use mathlib.Core.List.{List}
 use mathlib.Core.Path.{_≡_, refl, sym, ap, subst, _∙_}
 use native.Mathlib.Omega.{arith}
 use native.Mathlib.Decide.{ℕ-discrete}
-use borrow.Author.Tests.{ltb-true, lt-ltb, eqb-true, eq-eqb, ne-eqb}
+use borrow.Author.Tests.{ltb-true, lt-ltb, le-ltb, eqb-true, eq-eqb, ne-eqb}
 use lib.Dec.{ltb}
 use lib.ListN.{getD, set, length, length-set}
 use lib.Seq.{getD-set-same, getD-set-other}
@@ -130,8 +130,8 @@ module _ (instructions heads links : List ℕ) (n : ℕ) (s : Chains instruction
 
   module _ (before k : ℕ) (w : Walk instructions label n before k) where
     -- the label's row is met
-    pub walk-met : chained instructions before bucket k ≡ true → hasLabel instructions label k ≡ true → true ≡ labelled instructions label n
-    walk-met c e = sym (labelled-hit instructions label n k (omega (arith, chained-row c .below, w .within)) e)
+    pub walk-met : chained instructions before bucket k ≡ true → hasLabel instructions label k ≡ true → ltb k n ≡ labelled instructions label n
+    walk-met c e = let h : k < n = omega (arith, chained-row c .below, w .within) in lt-ltb k n h ∙ sym (labelled-hit instructions label n k h e)
 
     -- another label's is passed
     pub walk-next : chained instructions before bucket k ≡ true → hasLabel instructions label k ≡ false → Walk instructions label n k (getD links k 0)
@@ -149,5 +149,5 @@ module _ (instructions heads links : List ℕ) (n : ℕ) (s : Chains instruction
         at j m h (no ne) = w .passed .row j h (λ t. omega (arith, m, ne))
 
     -- the chain ends
-    pub walk-ends : chained instructions before bucket k ≡ false → false ≡ labelled instructions label n
-    walk-ends c = sym (labelled-none instructions label before (λ j h. w .passed .row j h (λ t. never (sym c ∙ (ap (λ i. chained instructions before i k) here ∙ t))))) ∙ w .same
+    pub walk-ends : chained instructions before bucket k ≡ false → ltb n n ≡ labelled instructions label n
+    walk-ends c = le-ltb n n (omega arith) ∙ sym (labelled-none instructions label before (λ j h. w .passed .row j h (λ t. never (sym c ∙ (ap (λ i. chained instructions before i k) here ∙ t))))) ∙ w .same

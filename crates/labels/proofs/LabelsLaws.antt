@@ -6,7 +6,7 @@ use mathlib.Core.Path.{_≡_, refl, sym, ap, _∙_}
 use native.Mathlib.Omega.{arith}
 use native.Mathlib.Decide.{ℕ-discrete}
 use lib.Dec.{eqb}
-use borrow.Author.Tests.{eq-eqb, ne-eqb}
+use borrow.Author.Tests.{eqb-true, eq-eqb, ne-eqb}
 use Rattle.tables.specs.First.{first, every}
 use Rattle.tables.specs.Rows.{instructionRows, instructionAt}
 use Rattle.tables.specs.declared.rows.Instruction.{Instruction}
@@ -101,6 +101,32 @@ pub label-row-within : (instructions : List ℕ) (label : ℕ) → labelRow inst
 unfolding labelRow
 label-row-within instructions label = let rows = instructionRows instructions in first-within (hasLabel instructions label) rows rows 0 (omega arith)
 
+module _ (instructions : List ℕ) (distinct : labelsDistinct instructions ≡ true) where
+  -- a label that is on a row is on no later one
+  once : (label j k : ℕ) → j < k → k < instructionRows instructions → hasLabel instructions label j ≡ true → hasLabel instructions label k ≡ true → ⊥
+  unfolding labelsDistinct
+  once label j k l h a b =
+      let (one, same) = both (isLabel (instructionAt instructions k)) (eqb (labelAt instructions k) label) b in
+      let e : labelAt instructions k ≡ label = eqb-true _ _ same in
+      let hit : labelled instructions (labelAt instructions k) k ≡ true = rw e (labelled-hit instructions label k j l a) in
+      let twice : newLabel instructions k ≡ false = rw (one, hit) in
+      never (sym twice ∙ every-row (newLabel instructions) (instructionRows instructions) distinct k h)
+
+  -- so a row that has it is its row
+  pub label-row-is : (label k : ℕ) → k < instructionRows instructions → hasLabel instructions label k ≡ true → k ≡ labelRow instructions label
+  unfolding labelRow labelled
+  label-row-is label k h e =
+      let has = hasLabel instructions label in
+      let m = first-met has (instructionRows instructions) (instructionRows instructions) 0 (some-row has (instructionRows instructions) 0 k (omega arith) (omega arith) e) in
+      let below : first has (λ i. i) (instructionRows instructions) 0 (instructionRows instructions) < instructionRows instructions = let l = m .below in omega (arith, l) in
+      at (first has (λ i. i) (instructionRows instructions) 0 (instructionRows instructions)) below (m .passes)
+    where
+      at : (j : ℕ) → j < instructionRows instructions → hasLabel instructions label j ≡ true → k ≡ j
+      at j l p =
+          let not-later : j < k → ⊥ = (λ a. once label j k a h p e) in
+          let not-earlier : k < j → ⊥ = (λ a. once label k j a l e p) in
+          omega (arith, not-later, not-earlier)
+
 module _ (instructions : List ℕ) (fit : labelsFit instructions ≡ true) (k : ℕ) (h : k < instructionRows instructions) (jump : isJump (instructionAt instructions k) ≡ true) where
   target : Met (hasLabel instructions (labelAt instructions k)) (instructionRows instructions) (labelRow instructions (labelAt instructions k))
   unfolding labelRow labelled labelsFit targetsPresent
@@ -141,6 +167,12 @@ neither : (a b : Bool) → not (a || b) ≡ true → (a ≡ false) × (b ≡ fal
 neither true b e = never e
 neither false true e = never e
 neither false false e = (refl, refl)
+
+pub no-jump : (instructions : List ℕ) → unlabelled instructions ≡ true → (k : ℕ) → k < instructionRows instructions → isJump (instructionAt instructions k) ≡ false
+unfolding unlabelled
+no-jump instructions e k h =
+    let row : ℕ → Instruction = instructionAt instructions in
+    neither (isLabel (row k)) (isJump (row k)) (every-row (λ k. not (isLabel (row k) || isJump (row k))) (instructionRows instructions) e k h) .1
 
 pub unlabelled-fits : (instructions : List ℕ) → unlabelled instructions ≡ true → true ≡ labelsFit instructions
 unfolding unlabelled labelsFit labelsDistinct targetsPresent

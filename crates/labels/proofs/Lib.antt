@@ -1,3 +1,4 @@
 -- Laws that the proofs share, here and in the crates above.
 pub mod LabelsLaws
 pub mod ChainsLaws
+pub mod TargetsLaws

@@ -1,13 +1,13 @@
 -- How a label is found without comparing every two rows. Each label has a bucket; the LABEL rows of one bucket are a chain, from the last to the first:
 -- `heads` has a bucket's last row, `links` a row's next one in its chain.
-use Prim.Native.Nat.{ℕ, _%_, _<_}
+use Prim.Native.Nat.{ℕ, _%_, _<_, _≤_}
 use mathlib.Core.Bool.{Bool, true, false, _&&_}
 use mathlib.Core.List.{List}
 use mathlib.Core.Path.{_≡_}
 use lib.Dec.{eqb, ltb}
 use lib.ListN.{getD, length}
-use Rattle.tables.specs.Rows.{instructionLimit, instructionAt}
-use Rattle.labels.specs.Labels.{isLabel, labelAt, hasLabel}
+use Rattle.tables.specs.Rows.{instructionLimit, instructionRows, instructionAt}
+use Rattle.labels.specs.Labels.{isLabel, labelAt, hasLabel, labelsDistinct}
 
 -- how many buckets there are
 abbrev pub bucketCount : ℕ
@@ -30,3 +30,9 @@ pub record Chains (instructions heads links : List ℕ) (n : ℕ) : Type 0 where
   pub rows : length links ≡ instructionLimit
   pub head : (label : ℕ) → Passed instructions label n (getD heads (bucketOf label) 0)
   pub link : (label k : ℕ) → chained instructions n (bucketOf label) k ≡ true → Passed instructions label k (getD links k 0)
+
+-- those of a program without a label on two rows
+pub record ChainedAll (instructions heads links : List ℕ) : Type 0 where
+  pub few : instructionRows instructions ≤ instructionLimit
+  pub distinct : labelsDistinct instructions ≡ true
+  pub chains : Chains instructions heads links (instructionRows instructions)

@@ -2,6 +2,7 @@
 ghost use mathlib.Core.Path.{_≡_};
 ghost use mathlib.Core.Bool.{true};
 ghost use Prim.Native.Nat.{_≤_, _<_};
+ghost use lib.Dec.{ltb};
 ghost use lib.ListN.{getD, length, set};
 ghost use Rattle.tables.specs.Rows.{instructionRows, instructionLimit};
 ghost use Rattle.labels.specs.Labels.{hasLabel, labelled};
@@ -42,22 +43,29 @@ fn is_chained(instructions: &[u64], n: usize, b: usize, row: usize) -> bool
     (x.family == LABEL) & (bucket(x.second_name) == b)
 }
 
-// Whether one of the first n rows is the label's: along its bucket's chain.
-pub fn is_labelled(instructions: &[u64], heads: &[u16], links: &[u16], n: usize, label: u64) -> bool
+// The label's row among the first n, or n where none of these is: along its bucket's chain.
+pub fn labelled_row(
+    instructions: &[u64],
+    heads: &[u16],
+    links: &[u16],
+    n: usize,
+    label: u64,
+) -> usize
     requires { ⌜ (n ≤ instructionRows (now instructions)) × (instructionRows (now instructions) ≤ instructionLimit) × Chains (now instructions) (now heads) (now links) n ⌝ }
-    ensures { λ r. ⌜ r ≡ labelled (now (instructions .entry)) label n ⌝ }
+    ensures { λ r. ⌜ ltb r n ≡ labelled (now (instructions .entry)) label n ⌝ }
+    ensures { λ r. ⌜ (r < n → hasLabel (now (instructions .entry)) label r ≡ true) ⌝ }
 {
     let b = bucket(label);
     let mut before = n;
     let mut row = heads[b] as usize;
     while is_chained(instructions, before, b, row) {
         if has_label(instructions, row, label) {
-            return true;
+            return row;
         }
         before = row;
         row = links[row] as usize;
     }
-    false
+    n
 }
 
 // A LABEL row put in front of its bucket's chain.

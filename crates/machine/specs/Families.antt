@@ -108,7 +108,7 @@ storeOf regions cells x n a = do
 abbrev pub noWrites : Outcome (List Write)
 noWrites = ok []
 
--- 02, P4: a jump with a condition reads it and changes nothing. Where a row leads is in Next.antt.
+-- 02, P4: a jump with a condition reads it and changes nothing. Where a row leads is in control_flow/specs/Next.antt.
 unfoldable pub conditionalOf : List ℕ → Addresses → Outcome (List Write)
 conditionalOf cells a = do
   word ← conditionOf cells (a .first)

@@ -5,7 +5,7 @@ ghost use Prim.Native.Nat.{ℕ};
 ghost use lib.ListN.{length};
 ghost use Rattle.tables.specs.Tables.{tablesOf};
 ghost use Rattle.session.specs.Prepare.{entriesOf};
-ghost use Rattle.labels.specs.Labels.{labelsFit};
+ghost use Rattle.labels.specs.Targets.{LabelsKnown};
 ghost use Rattle.control_flow.specs.Next.{nextRow};
 ghost use Rattle.machine.specs.Outcome.{outcomeOf};
 ghost use Rattle.session_forward.specs.Forward.{left, stepped};
@@ -15,7 +15,8 @@ use crate::plain_step::plain_step;
 use control_flow::next::next_row;
 use journal::entries::ENTRY_WIDTH;
 use journal::position::Position;
-use labels::labels::labels_fit;
+use labels::labels::NO_ROW;
+use labels::labels::find_targets;
 use machine::outcome::is_other;
 use session::answer::StepAnswer;
 use session::position::position_fits;
@@ -24,6 +25,7 @@ use tables::refusal::AT_END;
 use tables::refusal::FOREIGN_POSITION;
 use tables::refusal::OTHER_INSTRUCTION;
 use tables::refusal::UNFIT_LABELS;
+use tables::rows::INSTRUCTION_LIMIT;
 use tables::rows::INSTRUCTION_WIDTH;
 use tables::rows::Instruction;
 use tables::rows::instruction_at;
@@ -47,7 +49,7 @@ fn row_here(instructions: &[u64], entries: usize, p: Position) -> RowHere
     RowHere::At(instruction_at(instructions, row))
 }
 
-// Any row: 9, 20, then by CALL or no CALL. Whether the labels fit is looked at before. The nodes play no part in it.
+// Any row: 9, 20, then by CALL or no CALL. The labels were looked at before. The nodes play no part in it.
 fn any_step(
     regions: &[u64],
     externs: &[u64],
@@ -55,13 +57,14 @@ fn any_step(
     arguments: &[u64],
     instructions: &[u64],
     fit: bool,
+    targets: &[u16],
     cells: &mut [u64],
     journal: &mut [u64],
     p: Position,
     x: Instruction,
     reply: &[u64],
 ) -> StepAnswer
-    requires { ⌜ RowReady (now regions) (now externs) (now parameters) (now arguments) (now instructions) x (now cells) (length (now journal)) p × (fit ≡ labelsFit (now instructions)) ⌝ }
+    requires { ⌜ RowReady (now regions) (now externs) (now parameters) (now arguments) (now instructions) x (now cells) (length (now journal)) p × LabelsKnown (now instructions) fit (now targets) ⌝ }
     ensures { λ r. ⌜ ((nodes : List ℕ) → left r (now (cells .exit)) (now (journal .exit)) ≡ rowLeaves (now (cells .entry)) (now (journal .entry)) p (nextRow (now (regions .entry)) (now (instructions .entry)) (now (cells .entry)) (p .row)) (outcomeOf (tablesOf (now (regions .entry)) (now (externs .entry)) (now (parameters .entry)) nodes (now (arguments .entry)) (now (instructions .entry))) (now (cells .entry)) x (now (reply .entry)))) ⌝ }
 {
     if is_other(x) {
@@ -70,7 +73,7 @@ fn any_step(
     if !fit {
         return StepAnswer::Refused(UNFIT_LABELS, p);
     }
-    let next = next_row(regions, instructions, cells, p.row);
+    let next = next_row(regions, instructions, targets, cells, p.row);
     if x.family == CALL {
         return call_step(
             regions,
@@ -88,7 +91,7 @@ fn any_step(
     plain_step(regions, cells, journal, p, next, x, reply)
 }
 
-// One step on the cells, of a program of which it is known whether its labels fit.
+// One step on the cells, of a program whose labels were looked at.
 pub fn step_row(
     regions: &[u64],
     externs: &[u64],
@@ -96,12 +99,13 @@ pub fn step_row(
     arguments: &[u64],
     instructions: &[u64],
     fit: bool,
+    targets: &[u16],
     cells: &mut [u64],
     journal: &mut [u64],
     p: Position,
     reply: &[u64],
 ) -> StepAnswer
-    requires { ⌜ Steppable (now regions) (now externs) (now parameters) (now arguments) (now instructions) (now cells) (length (now journal)) × (fit ≡ labelsFit (now instructions)) ⌝ }
+    requires { ⌜ Steppable (now regions) (now externs) (now parameters) (now arguments) (now instructions) (now cells) (length (now journal)) × LabelsKnown (now instructions) fit (now targets) ⌝ }
     ensures { λ r. ⌜ ((nodes : List ℕ) → left r (now (cells .exit)) (now (journal .exit)) ≡ stepped (now (cells .entry)) (now (journal .entry)) p (nextRow (now (regions .entry)) (now (instructions .entry)) (now (cells .entry)) (p .row)) (rowLook (tablesOf (now (regions .entry)) (now (externs .entry)) (now (parameters .entry)) nodes (now (arguments .entry)) (now (instructions .entry))) (now (cells .entry)) (entriesOf (length (now (journal .entry)))) p (now (reply .entry)))) ⌝ }
 {
     let here = row_here(instructions, journal.len() / ENTRY_WIDTH, p);
@@ -114,6 +118,7 @@ pub fn step_row(
             arguments,
             instructions,
             fit,
+            targets,
             cells,
             journal,
             p,
@@ -138,7 +143,8 @@ pub fn step_cells(
     requires { ⌜ Steppable (now regions) (now externs) (now parameters) (now arguments) (now instructions) (now cells) (length (now journal)) ⌝ }
     ensures { λ r. ⌜ ((nodes : List ℕ) → left r (now (cells .exit)) (now (journal .exit)) ≡ stepped (now (cells .entry)) (now (journal .entry)) p (nextRow (now (regions .entry)) (now (instructions .entry)) (now (cells .entry)) (p .row)) (rowLook (tablesOf (now (regions .entry)) (now (externs .entry)) (now (parameters .entry)) nodes (now (arguments .entry)) (now (instructions .entry))) (now (cells .entry)) (entriesOf (length (now (journal .entry)))) p (now (reply .entry)))) ⌝ }
 {
-    let fit = labels_fit(instructions);
+    let mut targets = [NO_ROW; INSTRUCTION_LIMIT];
+    let fit = find_targets(instructions, &mut targets);
     step_row(
         regions,
         externs,
@@ -146,6 +152,7 @@ pub fn step_cells(
         arguments,
         instructions,
         fit,
+        &targets,
         cells,
         journal,
         p,

@@ -4,13 +4,14 @@ ghost use mathlib.Core.List.{List};
 ghost use Prim.Native.Nat.{ℕ};
 ghost use lib.ListN.{length};
 ghost use Rattle.tables.specs.Tables.{tablesOf};
-ghost use Rattle.labels.specs.Labels.{labelsFit};
+ghost use Rattle.labels.specs.Targets.{LabelsKnown};
 ghost use Rattle.session_forward.specs.Step.{Steppable};
 ghost use Rattle.session_run.specs.Run.{Rest, running, onward, turn, runBy};
 ghost use Rattle.session_run.specs.Turn.{cellStep, afterTurn, runCells};
 use journal::entries::ENTRY_WIDTH;
 use journal::position::Position;
-use labels::labels::labels_fit;
+use labels::labels::NO_ROW;
+use labels::labels::find_targets;
 use session::answer::RunAnswer;
 use session::answer::StepAnswer;
 use session::answer::Stop;
@@ -18,6 +19,7 @@ use session::position::position_fits;
 use session_forward::step::step_row;
 use tables::family::CALL;
 use tables::refusal::FOREIGN_POSITION;
+use tables::rows::INSTRUCTION_LIMIT;
 use tables::rows::INSTRUCTION_WIDTH;
 use tables::rows::instruction_at;
 
@@ -27,7 +29,7 @@ pub enum Turn {
     Stopped(Stop, Position),
 }
 
-// A forward with no reply.
+// What a forward comes to.
 fn turn_of(answer: StepAnswer) -> Turn
     ensures { λ r. ⌜ ((rest : Rest) (taken : ℕ) (cells journal : List ℕ) → afterTurn rest taken cells journal r ≡ onward rest taken cells journal answer) ⌝ }
 {
@@ -37,7 +39,7 @@ fn turn_of(answer: StepAnswer) -> Turn
     }
 }
 
-// End, CALL, refusal, or a step.
+// End, CALL, refusal, or a step: a forward with no reply.
 fn take_turn(
     regions: &[u64],
     externs: &[u64],
@@ -45,11 +47,12 @@ fn take_turn(
     arguments: &[u64],
     instructions: &[u64],
     fit: bool,
+    targets: &[u16],
     cells: &mut [u64],
     journal: &mut [u64],
     p: Position,
 ) -> Turn
-    requires { ⌜ Steppable (now regions) (now externs) (now parameters) (now arguments) (now instructions) (now cells) (length (now journal)) × (fit ≡ labelsFit (now instructions)) ⌝ }
+    requires { ⌜ Steppable (now regions) (now externs) (now parameters) (now arguments) (now instructions) (now cells) (length (now journal)) × LabelsKnown (now instructions) fit (now targets) ⌝ }
     ensures { λ r. ⌜ ((nodes : List ℕ) (rest : Rest) (taken : ℕ) → afterTurn rest taken (now (cells .exit)) (now (journal .exit)) r ≡ turn (cellStep (tablesOf (now (regions .entry)) (now (externs .entry)) (now (parameters .entry)) nodes (now (arguments .entry)) (now (instructions .entry)))) (now (instructions .entry)) rest taken (now (cells .entry)) (now (journal .entry)) p) ⌝ }
 {
     let row = p.row;
@@ -67,6 +70,7 @@ fn take_turn(
         arguments,
         instructions,
         fit,
+        targets,
         cells,
         journal,
         p,
@@ -83,12 +87,13 @@ pub fn run_rows(
     arguments: &[u64],
     instructions: &[u64],
     fit: bool,
+    targets: &[u16],
     cells: &mut [u64],
     journal: &mut [u64],
     p: Position,
     allowance: u64,
 ) -> RunAnswer
-    requires { ⌜ Steppable (now regions) (now externs) (now parameters) (now arguments) (now instructions) (now cells) (length (now journal)) × (fit ≡ labelsFit (now instructions)) ⌝ }
+    requires { ⌜ Steppable (now regions) (now externs) (now parameters) (now arguments) (now instructions) (now cells) (length (now journal)) × LabelsKnown (now instructions) fit (now targets) ⌝ }
     ensures { λ r. ⌜ ((nodes : List ℕ) → running r (now (cells .exit)) (now (journal .exit)) ≡ runBy (cellStep (tablesOf (now (regions .entry)) (now (externs .entry)) (now (parameters .entry)) nodes (now (arguments .entry)) (now (instructions .entry)))) (now (instructions .entry)) allowance 0 (now (cells .entry)) (now (journal .entry)) p) ⌝ }
 {
     let mut taken = 0;
@@ -101,6 +106,7 @@ pub fn run_rows(
             arguments,
             instructions,
             fit,
+            targets,
             cells,
             journal,
             position,
@@ -116,7 +122,7 @@ pub fn run_rows(
     RunAnswer::Ran(taken, Stop::Allowance, position)
 }
 
-// Run behind 1, 2, 3, 10 and 4: the position and the labels of the program are looked at once.
+// Run behind 1, 2, 3, 10 and 4: the position and the labels of the program are looked at once, and each jump's target is found.
 pub fn run_cells(
     regions: &[u64],
     externs: &[u64],
@@ -134,7 +140,8 @@ pub fn run_cells(
     if !position_fits(instructions, journal.len() / ENTRY_WIDTH, p) {
         return RunAnswer::Refused(FOREIGN_POSITION, p);
     }
-    let fit = labels_fit(instructions);
+    let mut targets = [NO_ROW; INSTRUCTION_LIMIT];
+    let fit = find_targets(instructions, &mut targets);
     run_rows(
         regions,
         externs,
@@ -142,6 +149,7 @@ pub fn run_cells(
         arguments,
         instructions,
         fit,
+        &targets,
         cells,
         journal,
         p,

@@ -3,7 +3,8 @@ use mathlib.Core.List.{List}
 use mathlib.Core.Bool.{true, false}
 use mathlib.Core.Path.{_≡_, sym, ap, _∙_}
 use native.Mathlib.Omega.{arith}
-use borrow.Author.Tests.{eq-eqb, ne-eqb}
+use lib.Dec.{ltb}
+use borrow.Author.Tests.{lt-ltb, le-ltb, eq-eqb, ne-eqb}
 use Rattle.tables.specs.Rows.{instructionAt}
 use Rattle.tables.specs.declared.rows.Instruction.{Instruction}
 use Rattle.tables.proofs.FirstLaws.{never}
@@ -33,17 +34,17 @@ is-label : (c : tie.Else1) → isLabel (instructionAt (instructions (c .before))
 is-label c = ap (λ (x : Instruction). isLabel x) (sym (c .before .before .instruction-at .ensures)) ∙ eq-eqb _ _ (c .if1 .left)
 
 -- the answer is of the row's own label
-abbrev read : tie.After-is-labelled → tie.After-struct-known
+abbrev read : tie.After-labelled-row → tie.After-struct-known
 read c = c .before .before .before .before
 
-seen : (c : tie.After-is-labelled) → labelled (instructions (read c)) (labelAt (instructions (read c)) (row (read c))) (row (read c)) ≡ c .is-labelled .result
-seen c = ap (λ (x : Instruction). labelled (instructions (read c)) (x .«second_name») (row (read c))) (sym (read c .before .instruction-at .ensures)) ∙ sym (c .is-labelled .ensures)
+seen : (c : tie.After-labelled-row) → labelled (instructions (read c)) (labelAt (instructions (read c)) (row (read c))) (row (read c)) ≡ ltb (c .labelled-row .result) (row (read c))
+seen c = ap (λ (x : Instruction). labelled (instructions (read c)) (x .«second_name») (row (read c))) (sym (read c .before .instruction-at .ensures)) ∙ sym (c .labelled-row .ensures .0)
 
 returns : tie.Need-returns
 returns c = (rw (no-label c), λ t. chains-skip _ _ _ _ (entry (c .before) .pre .2) (no-label c))
 
-is-labelled-requires : tie.Need-is-labelled-requires
-is-labelled-requires c κs = let pre = entry (c .before .before .before) .pre in (omega (arith, pre .0), pre .1, pre .2)
+labelled-row-requires : tie.Need-labelled-row-requires
+labelled-row-requires c κs = let pre = entry (c .before .before .before) .pre in (omega (arith, pre .0), pre .1, pre .2)
 
 same-length : tie.Need-same-length
 same-length c = search needs
@@ -52,7 +53,7 @@ same-length-2 : tie.Need-same-length-2
 same-length-2 c = search needs
 
 returns-2 : tie.Need-returns-2
-returns-2 c = (rw (is-label (c .before .before .before .before), seen (c .before) ∙ c .if2 .taken), λ t. never t)
+returns-2 c = (rw (is-label (c .before .before .before .before), seen (c .before) ∙ lt-ltb _ _ (c .if2 .taken)), λ t. never t)
 
 chain-requires : tie.Need-chain-requires
 chain-requires c κs = let pre = entry (read (c .before .before .before)) .pre in (omega (arith, pre .0, pre .1), pre .2 .buckets, pre .2 .rows)
@@ -69,7 +70,7 @@ returns-3 c =
     let new = call .before .before .before in
     let label = new .before .before .before .before in
     let pre = entry (label .before) .pre in (
-      rw (is-label label, seen (new .before) ∙ new .if2 .left),
+      rw (is-label label, seen (new .before) ∙ le-ltb _ _ (new .if2 .left)),
       λ t. rw (call .chain .ensures .1, call .chain .ensures .0, label .before .before .instruction-at .ensures) (chains-add _ _ _ _ (pre .2) (omega (arith, pre .0, pre .1)) (is-label label)),
     )
 
@@ -79,7 +80,7 @@ chain-row-spec =
     (tie.spec
     instruction-at-requires
     returns
-    is-labelled-requires
+    labelled-row-requires
     same-length
     same-length-2
     returns-2

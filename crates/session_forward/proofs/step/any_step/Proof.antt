@@ -13,7 +13,7 @@ use Rattle.session_forward.proofs.step.any_step.Tie as tie
 -- ---- the places: the row was looked at, it is no 10/1, the labels fit, its next row is known; it is a CALL, or none
 
 abbrev entry : tie.After-is-other → tie.Start
-entry o = o .before .before .before .before .before .before .before .before .before
+entry o = o .before .before .before .before .before .before .before .before .before .before
 
 abbrev passed : tie.Else2 → tie.Else1
 passed e = e .before
@@ -37,10 +37,10 @@ no-other : (e : tie.Else1) → isOther (entry (e .before) .args .x) ≡ false
 no-other e = judged (e .before) (e .if1 .left)
 
 unfit : (t : tie.Then2) → labelsFit (entry (t .before .before) .args .instructions .now) ≡ false
-unfit t = sym (entry (t .before .before) .pre .1) ∙ not-true _ (t .if2 .taken)
+unfit t = sym (entry (t .before .before) .pre .1 .answer) ∙ not-true _ (t .if2 .taken)
 
 fit : (e : tie.Else2) → labelsFit (entry (passed e .before) .args .instructions .now) ≡ true
-fit e = sym (entry (passed e .before) .pre .1) ∙ not-false _ (e .if2 .left)
+fit e = sym (entry (passed e .before) .pre .1 .answer) ∙ not-false _ (e .if2 .left)
 
 -- ---- the needs
 
@@ -56,7 +56,10 @@ unfolding outcomeOf rowLeaves stepped _>>=_ _>>_ need
 returns-2 c = λ nodes. rw (no-other (c .before), unfit c)
 
 next-row-requires : tie.Need-next-row-requires
-next-row-requires c κs = let pre = entry (passed (c .before) .before) .pre .0 in (pre .opened .layout, pre .there)
+next-row-requires c κs =
+    let e = c .before in
+    let pre = entry (passed e .before) .pre in
+    (pre .0 .opened .layout, pre .0 .there, pre .1 .found (not-false _ (e .if2 .left)))
 
 call-step-requires : tie.Need-call-step-requires
 call-step-requires c κs =

@@ -15,7 +15,7 @@ use Rattle.session_forward.proofs.step.step_row.Tie as tie
 -- ---- the places: 19 and 11 were looked at, the row is there
 
 abbrev lent : tie.After-slice-known2 → tie.Start
-lent s = s .before .before .before .before .before .before .before
+lent s = s .before .before .before .before .before .before .before .before
 
 abbrev entry : tie.After-row-here → tie.Start
 entry n = lent (n .before .before)

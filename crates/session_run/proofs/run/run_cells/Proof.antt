@@ -13,8 +13,14 @@ returns : tie.Need-returns
 unfolding runCells need
 returns c = λ nodes. rw (sym (c .before .position-fits .ensures) ∙ not-true _ (c .if1 .taken))
 
-labels-fit-requires : tie.Need-labels-fit-requires
-labels-fit-requires c κs = search needs
+slice-aggregate-find-targets : tie.Need-slice-aggregate-find-targets
+slice-aggregate-find-targets c = search needs
+
+find-targets-requires : tie.Need-find-targets-requires
+find-targets-requires c κs = search needs
+
+slice-aggregate-run-rows : tie.Need-slice-aggregate-run-rows
+slice-aggregate-run-rows c = search needs
 
 run-rows-requires : tie.Need-run-rows-requires
 run-rows-requires c κs = search needs
@@ -29,7 +35,8 @@ returns-2 : tie.Need-returns-2
 unfolding runCells need
 returns-2 c =
     let after = c .before .before .before .before in
-    let fits = after .before .before .before .before in
+    let looked = after .before .before .before .before .before in
+    let fits = looked .before .before in
     λ nodes. rw (sym (fits .before .position-fits .ensures) ∙ not-false _ (fits .if1 .left)) (after .run-rows .ensures nodes)
 
 pub run-cells-spec : {M : Type 1} → statement M
@@ -38,7 +45,9 @@ run-cells-spec =
     (tie.spec
     position-fits-requires
     returns
-    labels-fit-requires
+    slice-aggregate-find-targets
+    find-targets-requires
+    slice-aggregate-run-rows
     run-rows-requires
     same-length
     same-length-2

@@ -12,19 +12,19 @@ use Rattle.session_run.proofs.run.run_rows.Statement.{statement}
 use Rattle.session_run.proofs.run.run_rows.Tie as tie
 
 abbrev Inv-loop : tie.InvT-loop
-Inv-loop regions externs parameters arguments instructions fit cells₀ journal₀ allowance taken₀ position₀ cells journal taken position =
+Inv-loop regions externs parameters arguments instructions fit targets cells₀ journal₀ allowance taken₀ position₀ cells journal taken position =
     (length cells ≡ length cells₀)
     × (length journal ≡ length journal₀)
     × ((nodes : List ℕ) → let step = cellStep (tablesOf regions externs parameters nodes arguments instructions) in
     runBy step instructions (allowance - taken) taken cells journal position ≡ runBy step instructions allowance 0 cells₀ journal₀ position₀)
 
 abbrev μ-loop : tie.MeasureT-loop
-μ-loop regions externs parameters arguments instructions fit cells₀ journal₀ allowance taken₀ position₀ cells journal taken position = allowance - taken
+μ-loop regions externs parameters arguments instructions fit targets cells₀ journal₀ allowance taken₀ position₀ cells journal taken position = allowance - taken
 
 -- ---- the places: in a turn, and behind it
 
 abbrev entry : tie.At-loop Inv-loop μ-loop → tie.Start Inv-loop μ-loop
-entry c = c .before .before .before .before .before .before .before .before
+entry c = c .before .before .before .before .before .before .before .before .before
 
 abbrev within : tie.After-take-turn Inv-loop μ-loop → tie.In-loop Inv-loop μ-loop
 within c = c .before .before .before
@@ -65,8 +65,8 @@ loop-again : tie.Need-loop-again Inv-loop μ-loop
 loop-again c =
     let made = c .before .before .before .before .before .before .before in
     let at = within made .before .loop in (
-      made .take-turn .kept .1 .1 .1 .1 .1 .1 .0 ∙ at .inv .0,
-      made .take-turn .kept .1 .1 .1 .1 .1 .1 .1 .0 ∙ at .inv .1,
+      made .take-turn .kept .1 .1 .1 .1 .1 .1 .1 .0 ∙ at .inv .0,
+      made .take-turn .kept .1 .1 .1 .1 .1 .1 .1 .1 .0 ∙ at .inv .1,
       λ nodes. ap (afterTurn _ _ _ _) (sym (c .before .turn2 .given .1)) ∙ made .take-turn .ensures nodes _ (at .taken) ∙ sym (run-turn _ _ _ _ _ _ (at .taken) (within made .loop-test .taken)) ∙ at .inv .2 nodes,
     )
 

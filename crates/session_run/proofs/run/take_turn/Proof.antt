@@ -22,7 +22,7 @@ slice-aggregate-step-row : tie.Need-slice-aggregate-step-row
 slice-aggregate-step-row c = search needs
 
 step-row-requires : tie.Need-step-row-requires
-step-row-requires c κs = c .before .before .before .before .before .before .before .before .before .before .before .before .before .before .pre
+step-row-requires c κs = c .before .before .before .before .before .before .before .before .before .before .before .before .before .before .before .pre
 
 turn-of-requires : tie.Need-turn-of-requires
 turn-of-requires c κs = search needs

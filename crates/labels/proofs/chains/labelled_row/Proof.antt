@@ -6,8 +6,8 @@ use Rattle.tables.specs.Rows.{instructionRows}
 use Rattle.labels.specs.Chains.{bucketOf, chained}
 use Rattle.labels.proofs.ChainsLaws.{bucket-below, bucket-within, chained-row, Walk, walk-start, walk-met, walk-next, walk-ends}
 use borrow.Author.Needs.{needs}
-use Rattle.labels.proofs.chains.is_labelled.Statement.{statement}
-use Rattle.labels.proofs.chains.is_labelled.Tie as tie
+use Rattle.labels.proofs.chains.labelled_row.Statement.{statement}
+use Rattle.labels.proofs.chains.labelled_row.Tie as tie
 
 abbrev Inv-loop : tie.InvT-loop
 Inv-loop instructions heads links n label p before₀ row₀ before row = Walk instructions label n before row
@@ -55,7 +55,8 @@ has-label-requires c κs = row-there c
 returns : tie.Need-returns Inv-loop μ-loop
 returns c =
     let then = c .before .before in
-    walk-met _ _ _ _ (entry then .pre .2) _ _ (placed then) _ _ (turn then .loop .inv) (in-chain then) (sym (c .before .has-label .ensures) ∙ c .if2 .taken)
+    let e = sym (c .before .has-label .ensures) ∙ c .if2 .taken in
+    (walk-met _ _ _ _ (entry then .pre .2) _ _ (placed then) _ _ (turn then .loop .inv) (in-chain then) e, λ h. e)
 
 mul-row-2 : tie.Need-mul-row-2 Inv-loop μ-loop
 mul-row-2 c = let then = c .before .before in record { fits = omega (arith, row-there then, entry then .pre .1) }
@@ -78,10 +79,10 @@ returns-2 : tie.Need-returns-2 Inv-loop μ-loop
 returns-2 c =
     let loop = c .before .before in
     let entry = loop .before .before .before .before .before .before in
-    walk-ends _ _ _ _ (entry .pre .2) _ _ (loop .before .before .bucket .ensures) _ _ (loop .loop .inv) (sym (c .before .is-chained .ensures) ∙ c .if1 .left)
+    (walk-ends _ _ _ _ (entry .pre .2) _ _ (loop .before .before .bucket .ensures) _ _ (loop .loop .inv) (sym (c .before .is-chained .ensures) ∙ c .if1 .left), λ h. absurd (omega arith))
 
-pub is-labelled-spec : {M : Type 1} → statement M
-is-labelled-spec =
+pub labelled-row-spec : {M : Type 1} → statement M
+labelled-row-spec =
     tie.close
     (tie.spec
     Inv-loop
