@@ -1,4 +1,4 @@
--- Where the jumps lead, found once for as many steps as are taken: `targets` has a jump's row at its own.
+-- Where the jumps lead, found once for as many steps as are taken: at a jump's row `targets` has the row of its LABEL.
 use Prim.Native.Nat.{ℕ, _<_, _≤_}
 use mathlib.Core.Bool.{Bool, true}
 use mathlib.Core.List.{List}

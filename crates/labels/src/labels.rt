@@ -76,7 +76,7 @@ pub fn is_jump(x: Instruction) -> bool
         | ((x.family == family::JUMP_WHEN) | (x.family == family::JUMP_UNLESS))
 }
 
-// Whether a row's target, where it is a jump, has a row; this is kept.
+// Whether a jump's target has a row, which is kept; any other row passes.
 fn keep_target(
     instructions: &[u64],
     heads: &[u16],
@@ -157,7 +157,7 @@ pub fn find_targets(instructions: &[u64], targets: &mut [u16]) -> bool
     chains_fit(instructions, targets)
 }
 
-// The same for one who takes no step.
+// The same where no step is taken.
 pub fn labels_fit(instructions: &[u64]) -> bool
     requires { ⌜ instructionRows (now instructions) ≤ instructionLimit ⌝ }
     ensures { λ r. ⌜ r ≡ labelsFit (now (instructions .entry)) ⌝ }
