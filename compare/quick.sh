@@ -31,6 +31,8 @@ comparison() { build -p compare && target/release/compare --random 20000 --limit
 
 call_lists() { build -p sessions && target/release/sessions --lists 20000; }
 
+conversions() { build -p conversions && target/release/conversions --words 100000; }
+
 wrong_copies() (
     . ./sensitivity.sh
     lines_found
@@ -59,7 +61,8 @@ quick() {
     step "the Rust session of at most 60 lines, built as its page says, writes its step.expected" rust_example
     step "a short comparison with quil-rs differs nowhere" comparison
     step "20,000 call lists differ nowhere and reach all that they must" call_lists
+    step "CONVERT of 100,000 words each way and of the edges is as 02 says, by whole numbers and by decimals" conversions
     step "each wrong copy's line is in its file" wrong_copies
-    step "damaged example files are read as docs/FORMAT.md says, and a refusal 1, 2, 3, 20 or 21 lies where it is told" damaged_files
+    step "damaged example files are read as docs/FORMAT.md says, and a refusal 1, 2, 3, 20, 21 or 22 lies where it is told" damaged_files
     exit $missed
 }

@@ -3,6 +3,7 @@
 #   oracle     wrong/oracle/*.edit     a line of quil-rs's changed, against the proved library
 #   parting    wrong/parting/*.edit    a line of what is expected in place of quil-rs's answer changed, against the proved library
 #   steps      wrong/steps/*.edit      a line of ours changed in an unproved copy, call lists against the plain machine
+#   conversions  wrong/conversions/*.edit  a line of ours changed in an unproved copy, its conversions as 02 asks, and call lists against the plain machine
 #   plain      wrong/plain/*.edit      a line of the plain machine's changed, call lists against the proved library
 
 # apply EDIT FILE [PLACE]: the line is there exactly once; PLACE is what FILE is a copy of.
@@ -15,7 +16,7 @@ apply() {
 # fresh SET: the copy that its edits change, as it should be.
 fresh() {
     case $1 in
-    library | steps) copy ;;
+    library | steps | conversions) copy ;;
     oracle) sources ;;
     parting) changeable oracle ;;
     plain) changeable plain ;;
@@ -26,7 +27,7 @@ fresh() {
 place() {
     file=$(sed -n 's/^file: //p' "$1")
     case $1 in
-    wrong/library/* | wrong/steps/*) echo "target/copy/${file%%/*}/src/${file#*/}.rs" ;;
+    wrong/library/* | wrong/steps/* | wrong/conversions/*) echo "target/copy/${file%%/*}/src/${file#*/}.rs" ;;
     wrong/oracle/*) echo "target/quil-rs/src/$file" ;;
     wrong/parting/*) echo "target/oracle/src/$file" ;;
     wrong/plain/*) echo "target/plain/src/$file" ;;
@@ -50,6 +51,7 @@ lines_found() {
 amount() {
     case $1 in
     compare | copy) echo --random 20000 --limits 40 ;;
+    copy_conversions) echo --words 100000 ;;
     *) echo --lists 20000 ;;
     esac
 }
@@ -99,11 +101,15 @@ sensitivity() {
     unnoticed=0
     count=0
     lines_found
-    for set in ${*:-library oracle parting steps plain}; do
+    for set in ${*:-library oracle parting steps conversions plain}; do
         case $set in
         library) agrees copy && each library copy copy ;;
         oracle | parting) each "$set" compare compare ;;
         steps) agrees copy_sessions && each steps copy copy_sessions ;;
+        conversions)
+            agrees copy_conversions && each conversions copy copy_conversions
+            agrees copy_sessions && each conversions copy copy_sessions
+            ;;
         plain) each plain sessions sessions ;;
         *) fail "no such set: $set" ;;
         esac

@@ -122,6 +122,14 @@ pub enum Instruction {
     },
     /// Family 15: to the program's end.
     Halt,
+    /// Family 16: `destination` becomes `source`, an INTEGER as the nearest REAL, a REAL without its fraction as an
+    /// INTEGER.
+    Convert {
+        /// What is written: of a REAL region if the source's is INTEGER, of an INTEGER one if it is REAL.
+        destination: MemoryReference,
+        /// What it becomes.
+        source: MemoryReference,
+    },
 }
 
 /// The last operand of an instruction.
@@ -170,6 +178,7 @@ impl Instruction {
             JumpUnless { label, condition } => words(13, 0, two(condition, region(label)), NO_SOURCE),
             Label { label } => words(14, 0, [0, 0, label, 0], NO_SOURCE),
             Halt => words(15, 0, [0; 4], NO_SOURCE),
+            Convert { destination, source } => words(16, 0, one(destination), Source::Reference(source).words()),
         }
     }
 }

@@ -4,7 +4,7 @@ use crate::{raw, Refusal, Tables};
 /// many no [`forward`](crate::Session::forward) is refused with 13, and whatever the journal's length, no more are ever in
 /// use. With jumps it is the same sum and no such bound: a loop uses entries each time round, at most 65 a step.
 /// It may be above [`sizes::ENTRY_LIMIT`](crate::sizes::ENTRY_LIMIT), the most that open takes; 13 may then come.
-/// Refusals in order: 1, 2, 3, 10, 5, 9, 20, 21, then 6, 7, 8 by row.
+/// Refusals in order: 1, 2, 3, 10, 5, 9, 20, 21, 22, then 6, 7, 8 by row.
 ///
 /// ```
 /// use mugwortlatch::{flattened, journal_length, Instruction, Tables};

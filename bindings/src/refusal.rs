@@ -70,6 +70,8 @@ refusals! {
     19 ForeignPosition "the position lies past its tables or has more steps than entries, or the journal cannot be read",
     20 UnfitLabels "a label stands on two LABEL rows, or a jump goes to a label that stands on none",
     21 ConditionNotBit "the condition of a jump is not declared, or not BIT",
+    22 UnfitConversion "a CONVERT is not between INTEGER and REAL, or one of its names is not declared",
+    23 OutsideInteger "a REAL to convert is a NaN, an infinity, or outside -2^63 to 2^63-1 after its fraction is dropped",
 }
 
 /// Who can mend what was turned down.
@@ -102,7 +104,8 @@ impl Refusal {
             14..=16 => Mender::RunningProgram,
             17 => Mender::ExternRoutine,
             18..=19 => Mender::ForeignWriter,
-            20..=21 => Mender::Author,
+            20..=22 => Mender::Author,
+            23 => Mender::RunningProgram,
             _ => Mender::Unknown,
         }
     }
@@ -156,7 +159,7 @@ mod tests {
     /// Causes and menders in the words of the page of refusals.
     #[test]
     fn words_of_the_page() {
-        for number in 1..=21 {
+        for number in 1..=23 {
             let refusal = Refusal::with_error(number, [0; 6]);
             let (cause, mender) = (refusal.cause(), refusal.mender());
             let lines = format!("## {number}\n\n- Cause: {cause}.\n- Mended by: {mender}.\n");

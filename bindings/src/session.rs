@@ -61,7 +61,7 @@ impl<'a> Session<'a> {
     /// cell, `journal` three an entry; [`sizes::MEMORY_WORDS`](crate::sizes::MEMORY_WORDS) and
     /// [`sizes::JOURNAL_WORDS`](crate::sizes::JOURNAL_WORDS) always fit, and
     /// [`journal_length`](crate::journal_length) is how many entries are enough for a program without jumps.
-    /// Refusals in order: 1, 2, 3, 10, 4, 5, 9, 20, 21, then 6, 7, 8 by row.
+    /// Refusals in order: 1, 2, 3, 10, 4, 5, 9, 20, 21, 22, then 6, 7, 8 by row.
     pub fn open(tables: Tables<'a>, memory: &'a mut [u64], journal: &'a mut [u64]) -> Result<Session<'a>, Refusal> {
         let mut session = Session { tables, memory, journal, position: Position::default() };
         session.reset()?;
@@ -79,7 +79,7 @@ impl<'a> Session<'a> {
 
     /// One step: the row at the position, with the rows of the extern routine's reply where it is a CALL, else none.
     /// A refusal changes nothing. After an accepted open these are left of its refusals, in order: 11; a CALL 14, 17,
-    /// 13; else 17, 14, 15, 16, 13.
+    /// 13; else 17, 14, 15, 16, 23, 13.
     pub fn forward(&mut self, reply: &[[u64; sizes::REPLY_WIDTH]]) -> Result<Position, Refusal> {
         let mut position = self.position.words();
         match raw::forward(&self.tables, self.memory, self.journal, &mut position, raw::flattened(reply)) {

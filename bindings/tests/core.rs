@@ -105,6 +105,8 @@ fn numbers_of_refusals() {
         ForeignPosition,
         UnfitLabels,
         ConditionNotBit,
+        UnfitConversion,
+        OutsideInteger,
     ];
     // A cause of more than a line is strings one after another in C.
     let header: String = HEADER.split('"').filter(|part| !part.trim().is_empty() || !part.contains('\n')).collect();

@@ -25,7 +25,7 @@ fn tables(instructions: &[Row]) -> Tables<'_> {
 }
 
 /// A row of every family that is stepped and may use all that is counted for it, and that number.
-fn families() -> [(Row, usize); 11] {
+fn families() -> [(Row, usize); 12] {
     let (n, equal) = (at(N, 0), ComparisonOperator::Equal);
     [
         (add(n, 1), 2),
@@ -39,6 +39,7 @@ fn families() -> [(Row, usize); 11] {
         (Instruction::Frame { operator: FrameOperator::SetPhase, first_node: 0, node_count: 1 }.row(), 1),
         (call(F, 0, 1), 65),
         (Instruction::Nop.row(), 1),
+        (convert(at(R, 1), n), 2),
     ]
 }
 
@@ -69,7 +70,7 @@ fn exactly(instructions: &[Row], sum: usize) {
 #[test]
 fn each_family_and_all() {
     families().into_iter().for_each(|(row, entries)| exactly(&[row], entries));
-    exactly(&families().map(|(row, _)| row), 84);
+    exactly(&families().map(|(row, _)| row), 86);
     assert_eq!(journal_length(&tables(&[])), Ok(0));
     assert_eq!(journal_length(&Tables::default()), Ok(0));
 }
@@ -149,7 +150,8 @@ fn refusals() {
     assert_eq!(refused(tables(&[other, mistyped])), 5);
     assert_eq!(refused(tables(&[absent, other])), 9);
     assert_eq!(refused(tables(&[absent, jump(5)])), 20);
-    assert_eq!(refused(tables(&[absent, label(5), jump_when(5, at(N, 0))])), 21);
+    assert_eq!(refused(tables(&[convert(at(N, 0), at(N, 1)), label(5), jump_when(5, at(N, 0))])), 21);
+    assert_eq!(refused(tables(&[absent, convert(at(R, 0), at(Q, 0))])), 22);
     assert_eq!(refused(tables(&[absent, unfit])), 6);
     assert_eq!(refused(tables(&[count, absent])), 7);
     assert_eq!(refused(tables(&[unfit, absent])), 8);

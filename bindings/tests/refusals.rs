@@ -88,6 +88,21 @@ fn author_of_jumps() {
     assert_eq!(opened(bench(&[call(Q, 0, 0), label(5), jump_unless(5, at(A, 0))])), 6);
 }
 
+/// 22 after 21 and before 6: every pair of kinds, a name that is not declared; the check passes them.
+#[test]
+fn author_of_conversions() {
+    let names = [A, N, O, R, Q];
+    for (to, from) in names.iter().flat_map(|&to| names.map(|from| (to, from))) {
+        let rows = [convert(at(to, 0), at(from, 0))];
+        let fits = [(R, N), (N, R)].contains(&(to, from));
+        assert_eq!((opened(bench(&rows)), check(&bench(&rows))), (if fits { 0 } else { 22 }, Ok(())));
+    }
+    let unfit = convert(at(N, 0), at(N, 1));
+    assert_eq!(opened(bench(&[unfit, label(5), jump_when(5, at(N, 0))])), 21);
+    assert_eq!(opened(bench(&[call(Q, 0, 0), unfit])), 22);
+    assert_eq!(opened(bench(&[call(Q, 0, 0), convert(at(N, 0), at(R, 1))])), 6);
+}
+
 #[test]
 fn student() {
     let nop = [Instruction::Nop.row()];
@@ -105,6 +120,7 @@ fn running_program() {
     assert_eq!(forwarded(mov(at(N, 3), 1), &[]), 14);
     assert_eq!(forwarded(divide(at(N, 0), 0), &[]), 15);
     assert_eq!(forwarded(logic(BinaryOperator::Shl, at(N, 0), -1), &[]), 16);
+    assert_eq!(forwarded(convert(at(N, 0), at(R, 2)), &[]), 14);
 }
 
 #[test]
@@ -180,7 +196,9 @@ fn run() {
 fn causes_and_menders() {
     assert_eq!(Refusal::JournalFull.mender(), Mender::Student);
     assert_eq!(Refusal::ForeignPosition.mender(), Mender::ForeignWriter);
-    assert_eq!([Refusal::UnfitLabels, Refusal::ConditionNotBit].map(Refusal::mender), [Mender::Author; 2]);
+    let authors = [Refusal::UnfitLabels, Refusal::ConditionNotBit, Refusal::UnfitConversion];
+    assert_eq!(authors.map(Refusal::mender), [Mender::Author; 3]);
+    assert_eq!(Refusal::OutsideInteger.mender(), Mender::RunningProgram);
     assert_eq!(Refusal::AtEnd.to_string(), "refused 11: the program is at its end");
     assert_eq!(Refusal::Unknown(99).to_string(), "refused 99: the cause is unknown to this version");
     assert_eq!(Refusal::Unknown(99).mender(), Mender::Unknown);

@@ -67,6 +67,7 @@ fn instructions() {
         (JumpUnless { label: 20, condition: A }, [13, 0, 10, 1, 20, 0, 3, 0, 0]),
         (Label { label: 20 }, [14, 0, 0, 0, 20, 0, 3, 0, 0]),
         (Halt, [15, 0, 0, 0, 0, 0, 3, 0, 0]),
+        (Convert { destination: A, source: C }, [16, 0, 10, 1, 0, 0, 2, 30, 3]),
     ];
     rows.into_iter().for_each(|(instruction, row)| assert_eq!(instruction.row(), row, "{instruction:?}"));
 }

@@ -50,8 +50,32 @@ nodes / number 0x7FF0000000000001 0x0
 nodes / 7 - 1
 nodes / 7 a -
 arguments / 3 - 1
+instructions / 17 1 - - - 2 - - 5
+instructions / 17 1 a - - - - - -
 instructions / 16 1 - - - 2 - - 5
 instructions / 16 1 a - - - - - -
+instructions / 16 - a 0 - - reference b 0
+instructions / 16 3 1 2 4 5 9 6 7
+instructions / 16 0 1 2 0 0 2 3 4
+instructions / CONVERT a 0 - - reference b 0
+instructions / CONVERT a 0 - - reference a 0
+instructions / CONVERT a - - - reference b 0
+instructions / CONVERT a 0 - - reference b -
+instructions / CONVERT a 0 b 0 reference b 0
+instructions / CONVERT a 0 1 2 reference b 0
+instructions / CONVERT a 0 - - integer 7 -
+instructions / CONVERT a 0 - - real 1.5 -
+instructions / CONVERT a 0 - - none - -
+instructions / CONVERT a 0 - - reference 7 0
+instructions / CONVERT 7 0 - - reference 8 0
+instructions / CONVERT @a 0 - - reference b 0
+instructions / CONVERT a 0 - - reference @b 0
+instructions / CONVERT a 0 - - 4 1 2
+instructions / CONVERT a 0 - - reference b
+instructions / CONVERT a 0 reference b 0
+instructions / CONVERT a 0 - - reference b 0 0
+instructions / Convert a 0 - - reference b 0
+instructions / CONVERT convert 0 - - reference b 0
 instructions / 11 1 - - - 2 - - 5
 instructions / 11 1 a - - - - - -
 instructions / 11 - - - @a - - - -
@@ -128,6 +152,8 @@ arguments / identifier @a -
 @regions
 regions / @7 BIT 1
 regions / Halt BIT 1
+regions / Convert BIT 1
+regions / converted BIT 1
 regions / jump-when BIT 1
 instructions / 4 - 0 0 - - integer 5 -
 instructions / 0 - 0 0 - - integer 5 -

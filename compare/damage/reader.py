@@ -35,7 +35,8 @@ JUMP
 JUMP-WHEN
 JUMP-UNLESS
 LABEL
-HALT'''.split('\n')]
+HALT
+CONVERT'''.split('\n')]
 OPERATIONS = {word: (family, operator) for family, words in enumerate(FAMILIES) for operator, word in enumerate(words)}
 
 RESERVED = {word.lower() for words in [HEADINGS, OTHER_LINES, OPERATIONS, *LISTS.values()] for word in words}
@@ -58,8 +59,9 @@ OPERANDS = {
     13: CELL + LABEL,
     14: NONE + LABEL,
     15: NONE + NONE,
+    16: CELL + NONE,
 }
-ONE_OPERATOR = {4, 5, 6, 7, 9, 11, 12, 13, 14, 15}
+ONE_OPERATOR = {4, 5, 6, 7, 9, 11, 12, 13, 14, 15, 16}
 SOURCES = {0: ['whole', 'unused'], 1: ['real', 'unused'], 2: CELL, 3: NONE}
 NODES = {0: CELL, 3: ['real', 'real'], 6: REGION}
 ARGUMENTS = {0: REGION, 1: CELL, 2: ['real', 'real']}

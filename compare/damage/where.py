@@ -1,12 +1,12 @@
 #!/usr/bin/env python3
-"""Random tables: of each refusal 1, 2, 3, 20 and 21 the console's program must name the place.
+"""Random tables: of each refusal 1, 2, 3, 20, 21 and 22 the console's program must name the place.
 
 Usage: compare/damage/where.py [--seed N] [--runs N] [--show N] [--program PATH]
 
-N (2000) sets of six tables are made at random, about a third of jumps and labels alone, damaged, written as numbers
+N (2000) sets of six tables are made at random, about a third of jumps, labels and CONVERT alone, damaged, written as numbers
 and given to `target/bin/stepper check FILE`.
 The refusal is that of the model of crates/cases_calls, the place and its words are worked out here from the laboratory's paper;
-of 20 and 21, of which the papers name no place, from docs/DECISIONS.md (K11), in the words of crates/stepper/stdout.
+of 20, 21 and 22, of which the papers name no place, from docs/DECISIONS.md (K11), in the words of crates/stepper/stdout.
 Of any other refusal the number alone is compared.
 The last line has the counts; ends with 0 only if nothing differs and every kind of place was met.
 """
@@ -39,9 +39,9 @@ TAGS = 'address function infix number pi prefix variable'.split()
 MNEMONICS = [line.split() for line in (
     'ADD SUB DIV MUL', 'EQ GE GT LE LT', 'AND IOR XOR SHL SHR ASHR', 'NEG NOT', 'MOVE', 'EXCHANGE', 'LOAD', 'STORE',
     'SET-FREQUENCY SET-PHASE SET-SCALE SHIFT-FREQUENCY SHIFT-PHASE', 'CALL', 'NOP OTHER',
-    'JUMP', 'JUMP-WHEN', 'JUMP-UNLESS', 'LABEL', 'HALT')]
+    'JUMP', 'JUMP-WHEN', 'JUMP-UNLESS', 'LABEL', 'HALT', 'CONVERT')]
 KINDS = 'BIT INTEGER OCTET REAL'.split()
-FRAME, CALL, NOP, JUMP, JUMP_WHEN, JUMP_UNLESS, LABEL, HALT = 8, 9, 10, 11, 12, 13, 14, 15
+FRAME, CALL, NOP, JUMP, JUMP_WHEN, JUMP_UNLESS, LABEL, HALT, CONVERT = 8, 9, 10, 11, 12, 13, 14, 15, 16
 
 ANY, UNUSED = 'any', 'unused'
 # Of each family the last operator (UNUSED where there is one alone), which of words 3 to 6 are used, the source forms.
@@ -49,7 +49,7 @@ FAMILIES = [
     (3, '11..', (0, 1, 2)), (4, '1111', (0, 1, 2)), (5, '11..', (0, 2)), (1, '11..', (3,)), (UNUSED, '11..', (0, 1, 2)),
     (UNUSED, '1111', (3,)), (UNUSED, '111.', (2,)), (UNUSED, '1.11', (0, 1, 2)), (4, '11..', (3,)), (UNUSED, '111.', (3,)),
     (1, '....', (3,)), (UNUSED, '..1.', (3,)), (UNUSED, '111.', (3,)), (UNUSED, '111.', (3,)), (UNUSED, '..1.', (3,)),
-    (UNUSED, '....', (3,)),
+    (UNUSED, '....', (3,)), (UNUSED, '11..', (2,)),
 ]
 LAST_FAMILY = len(FAMILIES) - 1
 
@@ -189,7 +189,24 @@ def conditions(tables):
     raise AssertionError('no condition that is not declared or not BIT')
 
 
-PLACES = {1: shape, 2: word, 3: names, 20: labels, 21: conditions}
+def conversions(tables):
+    """The first CONVERT with a name that is not declared, the destination's before the source's, or of other kinds."""
+    rows = decoded(tables)
+    kinds = {region.name: region.kind for region in rows.regions}
+    for number, row in enumerate(rows.instructions):
+        if row.family != CONVERT:
+            continue
+        for operand, name in (('destination', row.first), ('source', row.source)):
+            if name not in kinds:
+                return f'no {operand}', [head(5, number, row) + ':', f'  the {operand} (#{name}) is not declared']
+        to, source = KINDS[kinds[row.first]], KINDS[kinds[row.source]]
+        if {to, source} != {'INTEGER', 'REAL'}:
+            return 'pair', [head(5, number, row) + ':',
+                            f'  from {source} to {to}, where INTEGER to REAL or REAL to INTEGER is required']
+    raise AssertionError('no CONVERT that is not declared or of other kinds')
+
+
+PLACES = {1: shape, 2: word, 3: names, 20: labels, 21: conditions, 22: conversions}
 
 
 def refused(tables):
@@ -254,8 +271,17 @@ def allowed_tables(rng):
     return [[w for row in rows for w in row] for rows in (regions, externs, parameters, nodes, arguments, instructions)]
 
 
+def conversion(rng, regions):
+    """Half of them of INTEGER and REAL, if there are such; the rest of any names."""
+    integers, reals = ([region[0] for region in regions if region[1] == kind] for kind in (1, 3))
+    pair = [rng.choice([rng.choice(regions)[0], rng.choice(regions)[0], rng.randrange(9)]) for _ in range(2)]
+    if integers and reals and rng.random() < 0.5:
+        pair = rng.sample([rng.choice(integers), rng.choice(reals)], 2)
+    return [CONVERT, 0, pair[0], rng.randrange(3), 0, 0, 2, pair[1], rng.randrange(3)]
+
+
 def jumping_tables(rng):
-    """Six tables of regions, labels and jumps, so that open comes to 20 and 21; most of the labels fit."""
+    """Six tables of regions, labels, jumps and CONVERT, so that open comes to 20, 21 and 22; most of the labels fit."""
     regions = [[name, rng.choice([0, 0, 0, 1, 2, 3]), rng.randrange(4)] for name in rng.sample(range(6), rng.randrange(3, 7))]
     known = rng.sample(range(9), rng.randrange(1, 5))
     rows = [[LABEL, 0, 0, 0, label, 0, 3, 0, 0] for label in known]
@@ -264,6 +290,7 @@ def jumping_tables(rng):
         condition = [rng.choice(regions)[0], rng.randrange(3)] if family in (JUMP_WHEN, JUMP_UNLESS) else [0, 0]
         label = rng.choice(known) if family in (JUMP, JUMP_WHEN, JUMP_UNLESS) else 0
         rows.append([family, 0, *condition, label, 0, 3, 0, 0])
+    rows += [conversion(rng, regions) for _ in range(rng.choice([0, 0, 1, 1, 2]))]
     rng.shuffle(rows)
     return [[w for row in regions for w in row], [], [], [], [], [w for row in rows for w in row]]
 
@@ -376,8 +403,8 @@ def main():
                 differ += 1
                 if differ <= chosen.show:
                     print(path.read_text(), 'expected', refusal, lines, '\ntold', answer)
-    missing = [kind for kind in ('words', 'limit', 'word', 'range', 'tree', 'regions', 'externs', 'labels', 'target', 'undeclared', 'kind')
-               if not counts[kind]]
+    missing = [kind for kind in ('words', 'limit', 'word', 'range', 'tree', 'regions', 'externs', 'labels', 'target', 'undeclared', 'kind',
+                                'no destination', 'no source', 'pair') if not counts[kind]]
     kinds = ', '.join(f'{kind} {counts[kind]}' for kind in sorted(counts))
     print(f'{chosen.runs} programs: {kinds}; never met: {" ".join(missing) or "none"}; {differ} differ')
     return 1 if differ or missing else 0

@@ -4,7 +4,8 @@
 The answers come from `rules/`, written from documents 01 and 02, docs/DECISIONS.md, the C header and, for the kept calls, quil-rs's
 source, without a look at the proved definitions or at the code of their rules. Seen of the code: the types of the
 answers, the position and the type error, the first lines of the looks that open, forward and back share, cases with
-their answers, and journal_length's rule, a sentence of 02's. For `quil-rs.answers` they are the list's, and the rules must give the same.
+their answers, journal_length's rule, a sentence of 02's, and CONVERT's two conversions with their definitions, which are Python's own here.
+For `quil-rs.answers` the answers are the list's, and the rules must give the same.
 The cases are in `cases/`. The same output at each run.
 """
 import sys
@@ -16,14 +17,14 @@ HERE = Path(__file__).resolve().parent
 TEXT = 1048576
 sys.path.insert(0, str(HERE))
 
-from cases import accepted, backs, calls, frames, jumps, labels, lengths, lines, lists, loads, opens, orders, quil_rs, references, refused, resolutions, runs, verdicts, walks, worked  # noqa: E402
+from cases import accepted, backs, calls, converts, frames, jumps, labels, lengths, lines, lists, loads, opens, orders, quil_rs, references, refused, resolutions, runs, verdicts, walks, worked  # noqa: E402
 from cases.script import Script  # noqa: E402
 
 
 def main():
     script = Script()
     script.heading('a call and its number | what it answers | memory words changed | journal words changed')
-    for group in (lines, worked, accepted, refused, calls, orders, opens, lengths, backs, labels, jumps, runs, lists, loads, verdicts, frames, resolutions, walks, references, quil_rs):
+    for group in (lines, worked, accepted, refused, calls, orders, opens, lengths, backs, labels, jumps, runs, converts, lists, loads, verdicts, frames, resolutions, walks, references, quil_rs):
         group.write(script)
     played = '\n'.join(script.lines) + '\n'
     assert len(played) <= TEXT, 'the program reads no more than this'

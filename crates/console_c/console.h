@@ -101,7 +101,8 @@ enum {
     CONSOLE_FAMILY_JUMP_WHEN = 12,   /* condition name, index, label, 0; none */
     CONSOLE_FAMILY_JUMP_UNLESS = 13, /* condition name, index, label, 0; none */
     CONSOLE_FAMILY_LABEL = 14,       /* 0, 0, label, 0; none */
-    CONSOLE_FAMILY_HALT = 15         /* 0, 0, 0, 0; none */
+    CONSOLE_FAMILY_HALT = 15,        /* 0, 0, 0, 0; none */
+    CONSOLE_FAMILY_CONVERT = 16      /* destination name, index, 0, 0; reference */
 };
 
 /* Operators, family by family; in the other families the word is 0. */
@@ -273,7 +274,11 @@ enum {
 
     /* the program's author */
     CONSOLE_REFUSAL_UNFIT_LABELS = 20,
-    CONSOLE_REFUSAL_CONDITION_NOT_BIT = 21
+    CONSOLE_REFUSAL_CONDITION_NOT_BIT = 21,
+    CONSOLE_REFUSAL_UNFIT_CONVERSION = 22,
+
+    /* the running program */
+    CONSOLE_REFUSAL_OUTSIDE_INTEGER = 23
 };
 
 /* The cause of an answer in words, a string that is not to be freed. A number that no call returns
@@ -328,6 +333,11 @@ static inline const char *console_cause(uint64_t number)
         return "a label stands on two LABEL rows, or a jump goes to a label that stands on none";
     case CONSOLE_REFUSAL_CONDITION_NOT_BIT:
         return "the condition of a jump is not declared, or not BIT";
+    case CONSOLE_REFUSAL_UNFIT_CONVERSION:
+        return "a CONVERT is not between INTEGER and REAL, or one of its names is not declared";
+    case CONSOLE_REFUSAL_OUTSIDE_INTEGER:
+        return "a REAL to convert is a NaN, an infinity, or outside -2^63 to 2^63-1 after its "
+               "fraction is dropped";
     default:
         return "no answer of this library";
     }
@@ -371,9 +381,9 @@ uint64_t console_references(const uint64_t *nodes, size_t nodes_length, uint64_t
                             uint64_t node_count, uint64_t place[1], uint64_t *rows,
                             size_t rows_length, uint64_t count[1]);
 
-/* How many journal entries are enough for a program without jumps: 1, 2, 3, 10, 5, 9, 20, 21, then
- * 6, 7, 8 by row, as console_open without its buffers. entries on 0: the sum over all rows, 1 for
- * NOP and a frame, 3 for EXCHANGE, 65 for a CALL, 2 for any other; a journal of n entries is
+/* How many journal entries are enough for a program without jumps: 1, 2, 3, 10, 5, 9, 20, 21, 22,
+ * then 6, 7, 8 by row, as console_open without its buffers. entries on 0: the sum over all rows, 1
+ * for NOP and a frame, 3 for EXCHANGE, 65 for a CALL, 2 for any other; a journal of n entries is
  * CONSOLE_ENTRY_WIDTH * n words. After an accepted console_open, where nothing else writes the
  * session and no row is a JUMP, JUMP_WHEN or JUMP_UNLESS, no more entries are ever in use, and with
  * a journal of at least so many no console_forward is 13. With jumps a row may be done many times,
@@ -382,20 +392,21 @@ uint64_t console_references(const uint64_t *nodes, size_t nodes_length, uint64_t
 uint64_t console_journal_length(CONSOLE_TABLES, uint64_t entries[1],
                                 uint64_t error[CONSOLE_TYPE_ERROR_WIDTH]);
 
-/* Zeroes the cells of all regions, each with its declared kind: 1, 2, 3, 10, 4, 5, 9, 20, 21, then
- * 6, 7, 8 by row. memory takes two words a cell, kind and word; words past the cells stay. journal
- * takes three words an entry, at most 2,048 entries; none is read or written. position on 0: all
- * words 0. error on 5, as console_check. A refusal leaves memory as it was. */
+/* Zeroes the cells of all regions, each with its declared kind: 1, 2, 3, 10, 4, 5, 9, 20, 21, 22,
+ * then 6, 7, 8 by row. memory takes two words a cell, kind and word; words past the cells stay.
+ * journal takes three words an entry, at most 2,048 entries; none is read or written. position on
+ * 0: all words 0. error on 5, as console_check. A refusal leaves memory as it was. */
 uint64_t console_open(CONSOLE_TABLES, uint64_t *memory, size_t memory_length,
                       const uint64_t *journal, size_t journal_length,
                       uint64_t position[CONSOLE_POSITION],
                       uint64_t error[CONSOLE_TYPE_ERROR_WIDTH]);
 
 /* One step forward, the row at position: 1, 2, 3, 10, 4, 19, 11, 9, 20, then for a CALL 6, 7, 8,
- * 14, 17, 13, else 17, 18, 14, 18, 14, 18, 15, 16, 13. memory takes 2 words a cell, a journal entry
- * 3 words. position on 0 is the new one: its row is the next, a taken jump's LABEL row, or after
- * HALT the number of rows. reply is at most 64 rows of 4 words where the row is a CALL, else empty:
- * argument, offset, kind, word. On any other answer memory and journal keep what they held. */
+ * 14, 17, 13, else 17, 18, 14, 18, 14, 18, 15, 16, 23, 13. memory takes 2 words a cell, a journal
+ * entry 3 words. position on 0 is the new one: its row is the next, a taken jump's LABEL row, or
+ * after HALT the number of rows. reply is at most 64 rows of 4 words where the row is a CALL, else
+ * empty: argument, offset, kind, word. On any other answer memory and journal keep what they held.
+ */
 uint64_t console_forward(CONSOLE_TABLES, uint64_t *memory, size_t memory_length, uint64_t *journal,
                          size_t journal_length, uint64_t position[CONSOLE_POSITION],
                          const uint64_t *reply, size_t reply_length);

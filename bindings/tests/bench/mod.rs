@@ -62,6 +62,10 @@ pub fn jump_unless(label: u64, condition: MemoryReference) -> Row {
     Instruction::JumpUnless { label, condition }.row()
 }
 
+pub fn convert(destination: MemoryReference, source: MemoryReference) -> Row {
+    Instruction::Convert { destination, source }.row()
+}
+
 /// The bench's regions with these instructions.
 pub fn bench(instructions: &[Row]) -> Tables<'_> {
     Tables { regions: flattened(&REGIONS), instructions: flattened(instructions), ..Tables::default() }

@@ -164,9 +164,15 @@ impl Builder {
             8 => self.frame(row, w[1], tables.nodes_of(w[2], w[3]))?,
             9 => Instruction::Call(call(tables, w)?),
             10 => other(row, w[1]),
+            16 => self.convert(row, w),
             _ => self.flow(row, w),
         };
         Ok(instruction)
+    }
+
+    fn convert(&mut self, row: usize, w: &[u64]) -> Instruction {
+        let destination = self.reference(row, 1, w[2], w[3]);
+        Instruction::Convert(Convert::new(destination, self.reference(row, 3, w[7], w[8])))
     }
 
     /// The condition is named as any operand is, so that an answer which depended on it would show.
@@ -236,11 +242,10 @@ fn marked_leaf(row: usize, spot: u64, node: &[u64]) -> Expression {
 /// NOP, or one of the instructions that the tables do not tell apart: each row takes another.
 fn other(row: usize, operator: u64) -> Instruction {
     let reference = || MemoryReference::new("elsewhere".to_string(), 0);
-    match (operator, row % 4) {
+    match (operator, row % 3) {
         (0, _) => Instruction::Nop(),
         (_, 0) => Instruction::Wait(),
-        (_, 1) => Instruction::Convert(Convert::new(reference(), reference())),
-        (_, 2) => Instruction::SwapPhases(SwapPhases::new(frame_identifier(row), frame_identifier(row))),
+        (_, 1) => Instruction::SwapPhases(SwapPhases::new(frame_identifier(row), frame_identifier(row))),
         (_, _) => {
             let duration = Expression::Variable("elsewhere".to_string());
             Instruction::RawCapture(RawCapture::new(true, frame_identifier(row), duration, reference()))

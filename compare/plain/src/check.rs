@@ -44,7 +44,7 @@ fn with_row([kind, spot, src, code, other]: Bad, row: usize) -> [u64; 6] {
     [kind, row as u64, spot, src, code, other]
 }
 
-/// "Families 9 and 10 pass"; and 02, P4: the check "doesn't look at the condition".
+/// "Families 9 and 10 pass"; and 02, P4: the check "doesn't look at the condition", nor, P5, at a CONVERT: open does.
 fn judge(t: &Tables, row: usize) -> Judged {
     match instruction(t, row) {
         Instruction::Arithmetic { destination, source, .. } => arithmetic(t, destination.name, source),

@@ -3,6 +3,7 @@
 //! each call.
 mod call;
 mod check;
+mod convert;
 mod history;
 mod labels;
 mod layout;

@@ -96,12 +96,14 @@ fn instruction_allowed(t: &Tables, w: &[u64]) -> bool {
         11 | 14 => (1, zero(&w[2..4]) && w[5] == 0),
         12 | 13 => (1, w[5] == 0),
         15 => (1, zero(&w[2..6])),
+        // "Its first name and index the destination, its source a reference."
+        16 => (1, zero(&w[4..6])),
         _ => return false,
     };
     let form = match w[0] {
         3 | 5 | 8..=15 => w[6] == 3,
         2 => w[6] == 0 || w[6] == 2,
-        6 => w[6] == 2,
+        6 | 16 => w[6] == 2,
         _ => w[6] <= 2,
     };
     let source = match w[6] {

@@ -67,6 +67,7 @@ pub enum Instruction {
     JumpUnless { condition: Reference, label: u64 },
     Label { label: u64 },
     Halt,
+    Convert { destination: Reference, source: Reference },
 }
 
 /// Row `row` of loaded tables.
@@ -104,7 +105,8 @@ pub fn instruction(tables: &Tables, row: usize) -> Instruction {
         12 => Instruction::JumpWhen { condition: first, label: second.name },
         13 => Instruction::JumpUnless { condition: first, label: second.name },
         14 => Instruction::Label { label: second.name },
-        _ => Instruction::Halt,
+        15 => Instruction::Halt,
+        _ => Instruction::Convert { destination: first, source: reference },
     }
 }
 
@@ -136,6 +138,7 @@ pub fn written(row: Instruction) -> Vec<Reference> {
         Instruction::Load { destination, offset, .. } => (vec![destination, offset], None),
         Instruction::Store { offset, source, .. } => (vec![offset], Some(source)),
         Instruction::JumpWhen { condition, .. } | Instruction::JumpUnless { condition, .. } => (vec![condition], None),
+        Instruction::Convert { destination, source } => (vec![destination, source], None),
         _ => (Vec::new(), None),
     };
     if let Some(Source::Reference(reference)) = source {

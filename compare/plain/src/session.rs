@@ -2,6 +2,7 @@
 use crate::{
     call::resolve,
     check::{frame_error, type_error},
+    convert::conversions_fit,
     labels::{conditions_fit, labels_fit},
     layout::zeros,
     length::journal_entries,
@@ -90,8 +91,8 @@ fn answer<const N: usize>(done: Result<[u64; N], u64>, out: &mut [u64; N]) -> u6
     }
 }
 
-/// Open's looks: 1, 2, 3, 10, those at the buffers for so many cells, then 5, 9, 20, 21, and 6, 7, 8 by row. The number
-/// of cells.
+/// Open's looks: 1, 2, 3, 10, those at the buffers for so many cells, then 5, 9, 20, 21, 22, and 6, 7, 8 by row. The
+/// number of cells.
 fn looks(tables: &Tables, buffers: impl Fn(usize) -> Result<(), u64>, error: &mut [u64; 6]) -> Result<usize, u64> {
     let cells = load(tables)?;
     buffers(cells)?;
@@ -102,6 +103,7 @@ fn looks(tables: &Tables, buffers: impl Fn(usize) -> Result<(), u64>, error: &mu
     need(all(tables).all(|row| !matches!(row, Instruction::Other)), 9)?;
     need(labels_fit(tables), 20)?;
     need(conditions_fit(tables), 21)?;
+    need(conversions_fit(tables), 22)?;
     for row in all(tables) {
         if let Instruction::Call { name, first_argument, arguments } = row {
             resolve(tables, name, first_argument, arguments)?;

@@ -1,6 +1,7 @@
 //! One row on the cells: refused, or its writes in order and where it leads. 11 comes before it and 13 after.
 use crate::{
     call::{replied, resolve},
+    convert::converted,
     labels::{label_row, labels_fit},
     layout::{cell, lookup, word_fits, Cell, Region},
     loader::need,
@@ -74,6 +75,10 @@ impl Machine<'_> {
                 }
                 let place = self.indexed(self.region(destination), offset)?;
                 Ok(vec![Write { cell: place, to: self.copied(source, place)? }])
+            }
+            Instruction::Convert { destination, source } => {
+                let to = converted(self.read(source)?)?;
+                self.one(destination, to.kind, to.word)
             }
             // "Frame, NOP: no change, nothing looked up"; nor do jumps, labels and HALT change a cell.
             _ => Ok(Vec::new()),

@@ -1,14 +1,14 @@
-//! Call lists by chance through frame, journal_length, open, forward, back and run, against the plain machine on the
-//! same lent words and 02's claims about a frame's count, a step's entries and runs, and against demand 3's machine and
-//! 02's claim about the journal where only our calls wrote.
+//! Call lists, of every CONVERT row and then by chance, through frame, journal_length, open, forward, back and run,
+//! against the plain machine on the same lent words and 02's claims about a frame's count, a step's entries and runs, and
+//! against demand 3's machine and 02's claim about the journal where only our calls wrote.
 mod actions;
 mod claims;
+mod conversions;
 mod damage;
 mod externs;
 mod flow;
 mod journals;
 mod list;
-mod options;
 mod player;
 mod programs;
 mod replies;
@@ -20,11 +20,12 @@ mod side;
 mod values;
 
 use list::List;
-use options::Options;
 use player::{play, Difference};
 use report::{Progress, Report};
 use std::time::Instant;
-use tables::{random_numbers::Random, Session};
+use tables::{options::Usage, random_numbers::Random, Session};
+
+const USAGE: Usage = Usage { program: "sessions", option: "--lists", inputs: "call lists", count: 100_000 };
 
 /// Differences that are shrunk and shown.
 const SHOWN: u64 = 3;
@@ -32,22 +33,33 @@ const SHOWN: u64 = 3;
 /// Runs the program of that library, and ends the process: 0 if nothing differs and nothing is missing, else 1;
 /// 2 on bad usage.
 pub fn main(library: Box<dyn Session>) {
-    let options = Options::read(std::env::args().skip(1)).unwrap_or_else(|message| {
-        eprintln!("{message}");
-        std::process::exit(2)
-    });
-    let (start, mut progress) = (Instant::now(), Progress::new());
-    let mut report = Report::default();
-    let mut random = Random::new(options.seed);
-    while report.lists < options.lists && !(options.first && report.differ > 0) {
-        let list = actions::list(&mut random);
-        one(&*library, &mut report, list);
-        progress.at(report.lists, options.lists);
+    let options = USAGE.options();
+    let every = conversions::lists();
+    let rows = played(&*library, every.len() as u64, every, options.first);
+    println!("every CONVERT row: {}\n", rows.counts());
+    if options.first && rows.differ > 0 {
+        std::process::exit(1)
+    }
+    let (start, mut random) = (Instant::now(), Random::new(options.seed));
+    let by_chance = (0..options.count).map(|_| actions::list(&mut random));
+    let report = played(&*library, options.count, by_chance, options.first);
+    report.print(start.elapsed().as_secs_f64());
+    let agreed = rows.differ + report.differ == 0 && report.missing().is_empty();
+    std::process::exit(if agreed { 0 } else { 1 })
+}
+
+/// All of the lists, or up to the first difference.
+fn played(library: &dyn Session, of: u64, lists: impl IntoIterator<Item = List>, first: bool) -> Report {
+    let (mut report, mut progress) = (Report::default(), Progress::new());
+    for list in lists {
+        one(library, &mut report, list);
+        progress.at(report.lists, of);
+        if first && report.differ > 0 {
+            break;
+        }
     }
     progress.end();
-    report.print(start.elapsed().as_secs_f64());
-    let agreed = report.differ == 0 && report.missing().is_empty();
-    std::process::exit(if agreed { 0 } else { 1 })
+    report
 }
 
 fn one(library: &dyn Session, report: &mut Report, mut list: List) {

@@ -18,7 +18,7 @@ impl Builder<'_> {
     }
 
     fn tried(&mut self) -> Option<[u64; 9]> {
-        match self.random.below(42) {
+        match self.random.below(46) {
             _ if !self.labels.is_empty() && self.random.chance(35) => self.flow(),
             0..=4 => self.arithmetic(),
             5..=8 => self.comparison(),
@@ -30,6 +30,7 @@ impl Builder<'_> {
             28..=30 => self.store(),
             31..=34 => Some(self.frame()),
             35..=40 => self.call(),
+            41..=44 => self.convert(),
             _ if self.careful() => Some(NOP),
             _ => Some([10, 1, 0, 0, 0, 0, 3, 0, 0]),
         }
@@ -108,6 +109,13 @@ impl Builder<'_> {
         let ([offset, place], _) = self.cell(&[1])?;
         let [form, a, b] = self.source(kind, &[kind])?;
         Some([7, 0, name, 0, offset, place, form, a, b])
+    }
+
+    fn convert(&mut self) -> Option<[u64; 9]> {
+        let [to, from] = self.random.pick(&[[1, 3], [3, 1]]);
+        let ([name, index], _) = self.cell(&[to])?;
+        let ([source, place], _) = self.cell(&[from])?;
+        Some([16, 0, name, index, 0, 0, 2, source, place])
     }
 
     fn frame(&mut self) -> [u64; 9] {

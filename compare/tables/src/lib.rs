@@ -2,6 +2,7 @@
 //! nothing else.
 mod console;
 mod frame;
+pub mod options;
 mod query;
 pub mod random_numbers;
 mod session;

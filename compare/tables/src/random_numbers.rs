@@ -39,4 +39,9 @@ impl Random {
     pub fn pick<T: Copy>(&mut self, list: &[T]) -> T {
         list[self.size(list.len())]
     }
+    /// An integer halfway between two binary64, or one beside it.
+    pub fn halfway(&mut self) -> u64 {
+        let middle = 2 * (1 << 52 | self.word() >> 12) + 1;
+        (middle << self.below(11)).wrapping_add(self.below(3)).wrapping_sub(1)
+    }
 }

@@ -4,7 +4,7 @@ use std::fmt::Write;
 
 const KINDS: [&str; 4] = ["BIT", "INTEGER", "OCTET", "REAL"];
 
-const OPERATORS: [&[&str]; 16] = [
+const OPERATORS: [&[&str]; 17] = [
     &["ADD", "SUB", "DIV", "MUL"],
     &["EQ", "GE", "GT", "LE", "LT"],
     &["AND", "IOR", "XOR", "SHL", "SHR", "ASHR"],
@@ -21,6 +21,7 @@ const OPERATORS: [&[&str]; 16] = [
     &["JUMP-UNLESS"],
     &["LABEL"],
     &["HALT"],
+    &["CONVERT"],
 ];
 
 /// The six tables, a row to a line.

@@ -17,17 +17,21 @@ VALUES = (0, 1, 2, 3, 4, MOST)
 BAD_CALLS = ((6, 'CALL q'), (7, 'CALL g n'), (8, 'CALL v q'))
 
 
-def words(bench):
+def each_word(bench, text, free, names=quil.NAMES):
     """Each wrong word alone is 2; the type check passes the rest. A family's number past the last is 2 with whatever words."""
+    row = quil.row(text, names)
+    for at, name in enumerate(WORD_NAMES['instructions']):
+        bench.script.heading(f'{text}: {name}')
+        for value in VALUES if at else FAMILIES:
+            lend(bench.script, row[:at] + [value] + row[at + 1:], regions=())
+            answer = bench.script.check()
+            if at or value > CONVERT:
+                bench.expect(0 if at in free or value == row[at] else 2, answer, text)
+
+
+def words(bench):
     for text, free in ROWS:
-        row = quil.row(text)
-        for at, name in enumerate(WORD_NAMES['instructions']):
-            bench.script.heading(f'{text}: {name}')
-            for value in VALUES if at else FAMILIES:
-                lend(bench.script, row[:at] + [value] + row[at + 1:], regions=())
-                answer = bench.script.check()
-                if at or value > HALT:
-                    bench.expect(0 if at in free or value == row[at] else 2, answer, text)
+        each_word(bench, text, free)
 
 
 def other_calls(bench):
@@ -136,7 +140,8 @@ def orders_of_forward(bench):
     stepped(bench, 20, F, 'JUMP @1', reply=(0,))
     stepped(bench, 20, F, 'JUMP @1', entries=0)
     for row, cells in (('ADD q[0] 1', ''), ('ADD n[3] 1', ''), ('ADD n[0] 1', 'n0=4:0'), ('LOAD n[0] n n[1]', 'n1=3'), ('LOAD n[0] n n[1]', 'n1=2 n2=4:0'),
-                       ('DIV n[0] 0', ''), ('SHL n[0] -1', ''), ('JUMP-WHEN @1 q[0]', ''), ('JUMP-UNLESS @1 a[2]', ''), ('JUMP-WHEN @1 a[0]', 'a0=2')):
+                       ('DIV n[0] 0', ''), ('SHL n[0] -1', ''), ('JUMP-WHEN @1 q[0]', ''), ('JUMP-UNLESS @1 a[2]', ''), ('JUMP-WHEN @1 a[0]', 'a0=2'),
+                       ('CONVERT n[0] r[0]', 'r0=nan')):
         stepped(bench, 20, row, 'LABEL @2', 'LABEL @2', cells=cells)
     for row in ('NOP', 'JUMP @1', 'LABEL @1', 'HALT'):
         stepped(bench, 20, row, 'JUMP @2', reply=REPLY)

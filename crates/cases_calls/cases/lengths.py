@@ -9,7 +9,7 @@ from .opens import layout, opened, program
 from .quil import operators
 from .worked import said
 
-# Operands, and what is counted for a row of families 0 to 8; 11 to 15 are in labels.py. One row of each after the other runs to the end, with a CALL before the NOP.
+# Operands, and what is counted for a row of families 0 to 8; 11 to 15 are in labels.py, 16 in converts.py. One row of each after the other runs to the end, with a CALL before the NOP.
 FAMILIES = ((ARITHMETIC, 'n[0] 1', 2), (COMPARISON, 'a[0] n[0] 1', 2), (LOGIC, 'n[0] 1', 2), (UNARY, 'n[0]', 2), (MOVE, 'n[1] 1', 2),
             (EXCHANGE, 'n[0] n[1]', 3), (LOAD, 'n[2] n n[0]', 2), (STORE, 'n n[0] 5', 2), (FRAME, '0 1', 1))
 ONE_OF_EACH = tuple(f'{operators(family)[0]} {operands}' for family, operands, _ in FAMILIES)
@@ -72,7 +72,7 @@ def turned_down(bench, number, what, **tables):
 
 
 def refused(bench):
-    """1, 2, 3, 10, 5, 9, then 6, 7 and 8; 20 and 21 are in labels.py."""
+    """1, 2, 3, 10, 5, 9, then 6, 7 and 8; 20 and 21 are in labels.py, 22 in converts.py."""
     turned_down(bench, 1, 'regions not whole', regions=[1, 2])
     lent(bench, '513 rows')
     bench.script.table(INSTRUCTION_TABLE, NOP, 9 * 513)

@@ -9,13 +9,16 @@ from .bench import Bench
 from .calls import F, H, call_tables
 from .script import marked
 
-LISTS, SHORTEST, LONGEST = 77, 10, 30
+LISTS, SHORTEST, LONGEST = 84, 10, 30
 ENTRY_COUNTS = (0, 1, 2, 3, 3, 5, 8, 12, 20)
 ALLOWANCES = (0, 1, 2, 5, 2 ** 64 - 1)
 FOREIGN_WORDS = (0, 1, 2, 3, 4, 255, 256, 2 ** 63, 2 ** 64 - 1)
 VALUES = {BIT: (0, 1), INTEGER: (0, 1, 5, 2 ** 64 - 1), OCTET: (0, 7, 255), REAL: (0, bits_of(-1.5), 0x7FF0000000000001)}
 # 18 steps in 27 entries: MOVE, four times round, then HALT before a row that is never reached.
 COUNTDOWN = ('MOVE n[0] 5', 'LABEL @1', 'SUB n[0] 1', 'GT a[0] n[0] 1', 'JUMP-WHEN @1 a[0]', 'HALT', 'MOVE n[1] 9')
+
+# The count 40 times 1.0e9 by way of a REAL, again and again: the second time it is no INTEGER, after 9 steps in 15 entries.
+SCALED = ('MOVE n[0] 40', 'LABEL @1', 'CONVERT r[0] n[0]', 'MUL r[0] 1.0e9', 'CONVERT n[0] r[0]', 'JUMP @1')
 
 
 class Draw:
@@ -48,6 +51,7 @@ def programs():
     yield 'CALLs and others', call_tables('MOVE n[0] 1', F, 'ADD n[2] n[0]', 'CALL v n')
     yield 'a loop', {'instructions': quil.program(*COUNTDOWN)}
     yield 'a loop around a CALL', call_tables('LABEL @a', F, 'NOT a[0]', 'JUMP-UNLESS @a a[1]', 'JUMP-WHEN @n a[0]', 'EXCHANGE n[0] n[2]', 'LABEL @n', 'HALT')
+    yield 'a loop of CONVERTs', {'instructions': quil.program(*SCALED)}
     yield 'a label twice', {'instructions': quil.program('NEG n[0]', 'LABEL @1', 'JUMP @1', 'LABEL @1')}
     yield 'a condition not BIT', {'instructions': quil.program('LABEL @1', 'NOT n[0]', 'JUMP-UNLESS @1 n[0]')}
 

@@ -8,7 +8,7 @@ from .verdicts import REGIONS, lend
 # Every value that a word is given: small ones, and 2^64 - 1, with which a sum of a range would wrap.
 VALUES = (*range(12), 2 ** 64 - 1)
 # A family's too, up to the first number that is none.
-FAMILIES = (*range(HALT + 2), 2 ** 64 - 1)
+FAMILIES = (*range(CONVERT + 2), 2 ** 64 - 1)
 # No return, and all parameters. It shares its name with a region.
 EXTERNS = [0, NONE, 0, 3]
 # A scalar, a fixed vector, a variable vector.
@@ -51,7 +51,7 @@ def beside(table, words):
 
 
 def words(script):
-    """A word takes every value, 0 to 11 or a family 0 to 16, and 2^64 - 1. What passes the looks is checked: no region is declared beside instructions."""
+    """A word takes every value, 0 to 11 or a family 0 to 17, and 2^64 - 1. What passes the looks is checked: no region is declared beside instructions."""
     for table, what, row in SWEPT:
         for at in range(len(row)):
             script.heading(f'{table}, {what}: {WORD_NAMES[table][at % len(WORD_NAMES[table])]} of row {at // len(WORD_NAMES[table])}')
@@ -120,13 +120,13 @@ def limits(script):
 
 
 def orders(script):
-    """Two words of arguments for 1, a family 16 for 2, a second region of the first's name for 3."""
+    """Two words of arguments for 1, a family 17 for 2, a second region of the first's name for 3."""
     for arguments in ([0, 0, 0], [0, 0]):
-        for family in (OTHER, HALT + 1):
+        for family in (OTHER, CONVERT + 1):
             for name in (1, 0):
                 script.heading(f'arguments of {len(arguments)} words, family {family}, second region {name}')
                 lend(script, [family, 0, 0, 0, 0, 0, 3, 0, 0], [0, 0, 2, name, 3, 2], arguments=arguments)
-                assert script.check() == (1 if len(arguments) == 2 else 2 if family > HALT else 3 if name == 0 else 0)
+                assert script.check() == (1 if len(arguments) == 2 else 2 if family > CONVERT else 3 if name == 0 else 0)
 
 
 def cells(script):

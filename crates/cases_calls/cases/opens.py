@@ -91,7 +91,7 @@ def type_errors(bench):
 
 
 def orders(bench):
-    """Neighbours among 1, 2, 3, 10, 4, 5, 9 and 6, 7, 8 by row; 20 and 21 are in labels.py."""
+    """Neighbours among 1, 2, 3, 10, 4, 5, 9 and 6, 7, 8 by row; 20 and 21 are in labels.py, 22 in converts.py."""
     opened(bench, 1, 'not whole and a word', regions=[1, 2], nodes=[7, 0, 0])
     opened(bench, 2, 'a word and two names', regions=[1, 0, 1] * 2, nodes=[7, 0, 0])
     opened(bench, 3, 'two names and cells', regions=[1, 0, 4097] * 2)

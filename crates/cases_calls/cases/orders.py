@@ -53,10 +53,10 @@ def rows(bench):
     step(17, 'ADD q[0] n[0]', reply=REPLY)
     step(17, 'NOP', reply=REPLY, entries=0)
     for row in ('ADD q[0] n[5]', 'ADD n[5] q[0]', 'EQ a[9] q[0] n[0]', 'EQ a[9] n[9] q[0]', 'EXCHANGE n[9] q[0]', 'LOAD n[9] q n[0]',
-                'LOAD n[9] r q[0]', 'STORE q n[9] 5', 'STORE n n[9] q[0]', 'MOVE q[0] n[9]', 'AND n[9] q[0]'):
+                'LOAD n[9] r q[0]', 'STORE q n[9] 5', 'STORE n n[9] q[0]', 'MOVE q[0] n[9]', 'AND n[9] q[0]', 'CONVERT r[9] q[0]', 'CONVERT q[0] n[9]'):
         step(18, row)
     for row in ('ADD n[0] n[3]', 'EQ a[2] n[0] n[1]', 'AND n[0] o[2]', 'EXCHANGE n[0] n[3]', 'LOAD n[3] n n[0]', 'STORE n n[0] n[3]',
-                'DIV n[3] n[0]', 'SHL n[3] n[0]', 'MOVE n[3] n[0]'):
+                'DIV n[3] n[0]', 'SHL n[3] n[0]', 'MOVE n[3] n[0]', 'CONVERT r[2] n[0]'):
         step(14, row, 'n0=4:0')
     step(18, 'STORE r n[0] n[1]', 'n0=2 n1=4:0')
     step(18, 'LOAD n[1] r n[0]', 'n0=REAL:inf')
@@ -65,11 +65,14 @@ def rows(bench):
     step(18, 'DIV n[0] 0', 'n0=OCTET:1')
     step(18, 'SHL n[0] n[1]', 'n0=REAL:1.0 n1=-1')
     step(18, 'SHL o[0] -1', 'o0=256')
+    step(14, 'CONVERT n[3] r[0]', 'r0=nan')
+    step(18, 'CONVERT n[0] r[0]', 'r0=4:-1')
+    step(17, 'CONVERT n[0] r[0]', 'r0=nan', reply=REPLY)
 
 
 def full_journals(bench):
     for number, row, cells in ((18, 'ADD q[0] 1', ''), (14, 'ADD n[3] 1', ''), (18, 'ADD n[0] 1', 'n0=4:0'), (14, 'LOAD n[0] n n[1]', 'n1=3'),
-                               (18, 'LOAD n[0] n n[1]', 'n1=2 n2=4:0'), (15, 'DIV n[0] 0', ''), (16, 'SHL n[0] -1', '')):
+                               (18, 'LOAD n[0] n n[1]', 'n1=2 n2=4:0'), (15, 'DIV n[0] 0', ''), (16, 'SHL n[0] -1', ''), (23, 'CONVERT n[0] r[0]', 'r0=nan')):
         bench.step(number, row, cells, entries=1)
         bench.step(number, row, cells, entries=0)
 

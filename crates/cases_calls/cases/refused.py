@@ -34,6 +34,8 @@ ROWS = (
     ('STORE n n[1] n[2]', ('n1',), NOT_INTEGER),
     ('STORE n n[1] 5', ('n1',), NOT_INTEGER),
     ('STORE r n[1] 1.5', ('n1',), NOT_INTEGER),
+    ('CONVERT r[0] n[1]', ('n1',), NOT_NUMBERS),
+    ('CONVERT n[0] r[1]', ('r1',), NOT_NUMBERS),
 )
 LENGTHS = {name: length for name, _, length in quil.BENCH}
 
@@ -109,9 +111,19 @@ def negative_counts(bench):
     bench.step(16, 'SHL n[0] n[0]', 'n0=-64')
 
 
+def not_integers(bench):
+    """NaNs, infinities and the greatest sizes; 2^63 and the REAL past it, the REAL past -2^63; 2^64 and the REAL before it, of both signs."""
+    for word in ('7FF8000000000000', 'FFF8000000000000', '7FF0000000000001', 'FFF0000000000001', '7FFFFFFFFFFFFFFF', 'FFFFFFFFFFFFFFFF', '7FF0000000000000',
+                 'FFF0000000000000', '7FEFFFFFFFFFFFFF', 'FFEFFFFFFFFFFFFF', '43E0000000000000', '43E0000000000001', 'C3E0000000000001', '43F0000000000000',
+                 'C3F0000000000000', '43EFFFFFFFFFFFFF', 'C3EFFFFFFFFFFFFF'):
+        bench.step(23, 'CONVERT n[0] r[0]', f'r0=0f{word}')
+    bench.step(23, 'CONVERT r[0] r[0]', 'r0=inf')
+    bench.step(23, 'CONVERT a[0] n[0]', 'n0=REAL:nan')
+
+
 def journal_room(bench):
     """One entry short, and an exact fit."""
-    for row, changes in (('NOP', 0), ('NEG n[0]', 1), ('EXCHANGE n[0] n[1]', 2)):
+    for row, changes in (('NOP', 0), ('NEG n[0]', 1), ('EXCHANGE n[0] n[1]', 2), ('CONVERT r[0] n[0]', 1), ('CONVERT n[0] r[0]', 1)):
         for used in (0, 1, 3):
             bench.step(13, row, entries=used + changes, used=used)
             bench.step(0, row, entries=used + changes + 1, used=used)
@@ -119,7 +131,7 @@ def journal_room(bench):
 
 def replies(bench):
     """Outside a call any reply is unfit."""
-    for row in ('NOP', 'NEG n[0]', 'EXCHANGE n[0] n[1]', 'LOAD n[0] n n[1]', 'STORE n n[1] 5'):
+    for row in ('NOP', 'NEG n[0]', 'EXCHANGE n[0] n[1]', 'LOAD n[0] n n[1]', 'STORE n n[1] 5', 'CONVERT r[0] n[0]'):
         bench.step(17, row, reply=(0, 0, 1, 5))
     bench.step(17, 'NOP', reply=(0,))
     bench.script.heading('SET-PHASE with a reply')
@@ -201,7 +213,7 @@ def over_limits(bench):
 
 def write(script):
     bench = Bench(script)
-    for group in (names, written_indices, read_cells, literal_targets, index_from_a_cell, cell_reached, zero_divisors, negative_counts, journal_room,
+    for group in (names, written_indices, read_cells, literal_targets, index_from_a_cell, cell_reached, zero_divisors, negative_counts, not_integers, journal_room,
                   replies, other_instruction, positions, buffers, many_cells, loader):
         script.heading(group.__name__.replace('_', ' ') + ':')
         group(bench)

@@ -32,6 +32,30 @@ def reals(bench):
         leaves(bench, row, cells, 'a0', word)
 
 
+# INTEGERs, and the REALs that they become: exact ones, ties at 2^53, 2^54 and 2^63, the numbers beside them.
+REAL_OF = (
+    (0, 0), (1, 0x3FF0000000000000), (-1, 0xBFF0000000000000), (2 ** 53 - 1, 0x433FFFFFFFFFFFFF), (2 ** 53, 0x4340000000000000),
+    (2 ** 53 + 1, 0x4340000000000000), (2 ** 53 + 2, 0x4340000000000001), (2 ** 53 + 3, 0x4340000000000002), (1 - 2 ** 53, 0xC33FFFFFFFFFFFFF),
+    (-2 ** 53, 0xC340000000000000), (-2 ** 53 - 1, 0xC340000000000000), (-2 ** 53 - 2, 0xC340000000000001), (-2 ** 53 - 3, 0xC340000000000002),
+    (2 ** 54 + 2, 0x4350000000000000), (2 ** 54 + 3, 0x4350000000000001), (2 ** 54 + 6, 0x4350000000000002), (2 ** 63 - 1024, 0x43DFFFFFFFFFFFFF),
+    (2 ** 63 - 513, 0x43DFFFFFFFFFFFFF), (2 ** 63 - 512, 0x43E0000000000000), (2 ** 63 - 1, 0x43E0000000000000), (-2 ** 63, 0xC3E0000000000000),
+    (1 - 2 ** 63, 0xC3E0000000000000), (512 - 2 ** 63, 0xC3E0000000000000), (513 - 2 ** 63, 0xC3DFFFFFFFFFFFFF))
+# REALs, and the INTEGERs that they become: zeros, subnormals, below 1, halves, the last with a half, about 2^53, both ends.
+INTEGER_OF = (
+    ('0.0', 0), ('-0.0', 0), ('0f0000000000000001', 0), ('0f8000000000000001', 0), ('0f000FFFFFFFFFFFFF', 0), ('0f0010000000000000', 0), ('0.5', 0), ('-0.5', 0),
+    ('-0.9', 0), ('0f3FEFFFFFFFFFFFFF', 0), ('0fBFEFFFFFFFFFFFFF', 0), ('1.0', 1), ('-1.0', -1), ('1.5', 1), ('-1.5', -1), ('2.5', 2), ('-2.5', -2),
+    ('0f432FFFFFFFFFFFFF', 2 ** 52 - 1), ('0fC32FFFFFFFFFFFFF', 1 - 2 ** 52), ('0f433FFFFFFFFFFFFF', 2 ** 53 - 1), ('0f4340000000000000', 2 ** 53),
+    ('0fC340000000000001', -2 ** 53 - 2), ('0f43DFFFFFFFFFFFFF', 2 ** 63 - 1024), ('0fC3DFFFFFFFFFFFFF', 1024 - 2 ** 63), ('0fC3E0000000000000', -2 ** 63))
+
+
+def conversions(bench):
+    """"INTEGER to REAL gives the nearest binary64, ties to even; REAL to INTEGER drops the fraction"."""
+    for integer, word in REAL_OF:
+        leaves(bench, 'CONVERT r[0] n[0]', f'n0={integer}', 'r0', word)
+    for real, integer in INTEGER_OF:
+        leaves(bench, 'CONVERT n[0] r[0]', f'r0={real}', 'n0', integer)
+
+
 def bits(bench):
     """NOT is 1-v, 255-v, -1-v; at or past the width Shl and Shr give 0, Ashr copies of the top bit."""
     far = 2 ** 63 - 1
@@ -129,6 +153,6 @@ def lists(script, first, count):
 
 def write(script):
     bench = Bench(script)
-    for group in (integers, reals, bits, kinds, verdicts, resolutions, access_sets, walks):
+    for group in (integers, reals, conversions, bits, kinds, verdicts, resolutions, access_sets, walks):
         script.heading('worked, ' + group.__name__.replace('_', ' ') + ':')
         group(bench)

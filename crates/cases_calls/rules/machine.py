@@ -162,8 +162,19 @@ def store(machine, row):
     return [(target, *(copied or machine.literal_for(target, row.form, row.source)))]
 
 
+def convert(machine, row):
+    """The source's "cell's kind picks the direction; BIT or OCTET there has no rule". The destination is only overwritten."""
+    target, place = machine.places(*written(row))
+    kind, word = machine.read(place, (INTEGER, REAL))
+    if kind == INTEGER:
+        return [(target, REAL, nearest_real(word))]
+    whole = whole_part(word)
+    need(whole is not None, 23)
+    return [(target, INTEGER, whole)]
+
+
 STEPS = {ARITHMETIC: arithmetic, COMPARISON: comparison, LOGIC: logic, UNARY: unary, MOVE: move, EXCHANGE: exchange,
-         LOAD: load, STORE: store}
+         LOAD: load, STORE: store, CONVERT: convert}
 
 
 def reply_write(machine, resolved, argument, offset, kind, word):

@@ -1,6 +1,7 @@
 """The journal's length for a program; open, forward, back and run on lent memory and journal. A position is row, steps not taken back, entries used."""
 from .calls import resolve
 from .check import type_error
+from .converts import converts_fit
 from .kept import loaded
 from .labels import conditions_fit, labels_fit
 from .machine import outcome
@@ -36,13 +37,14 @@ def is_other(row):
 
 
 def accept(tables):
-    """The refusals 5, 9, 20, 21, and 6, 7, 8 by row."""
+    """The refusals 5, 9, 20, 21, 22, and 6, 7, 8 by row."""
     error = type_error(tables)
     if error:
         raise TypeErrors(error)
     need(not any(map(is_other, tables.instructions)), 9)
     labels_fit(tables.instructions)
     conditions_fit(tables)
+    converts_fit(tables)
     for row in tables.instructions:
         if row.family == CALL:
             resolve(tables, row)

@@ -9,7 +9,7 @@ BIT, INTEGER, OCTET, REAL, NONE = range(5)
 SCALAR, FIXED, VARIABLE = range(3)
 ADDRESS, FUNCTION_CALL, INFIX, NUMBER, PI, PREFIX, VARIABLE_NODE = range(7)
 IDENTIFIER, REFERENCE, IMMEDIATE = range(3)
-ARITHMETIC, COMPARISON, LOGIC, UNARY, MOVE, EXCHANGE, LOAD, STORE, FRAME, CALL, OTHER, JUMP, JUMP_WHEN, JUMP_UNLESS, LABEL, HALT = range(16)
+ARITHMETIC, COMPARISON, LOGIC, UNARY, MOVE, EXCHANGE, LOAD, STORE, FRAME, CALL, OTHER, JUMP, JUMP_WHEN, JUMP_UNLESS, LABEL, HALT, CONVERT = range(17)
 JUMPS, CONDITIONAL = (JUMP, JUMP_WHEN, JUMP_UNLESS), (JUMP_WHEN, JUMP_UNLESS)
 INTEGER_LITERAL, REAL_LITERAL, SOURCE_REFERENCE, NO_SOURCE = range(4)
 
@@ -133,7 +133,7 @@ def argument_allowed(row):
 
 
 OPERATORS = {ARITHMETIC: 4, COMPARISON: 5, LOGIC: 6, UNARY: 2, FRAME: 5, OTHER: 2}
-FORMS = {LOGIC: (INTEGER_LITERAL, SOURCE_REFERENCE), LOAD: (SOURCE_REFERENCE,)}
+FORMS = {LOGIC: (INTEGER_LITERAL, SOURCE_REFERENCE), LOAD: (SOURCE_REFERENCE,), CONVERT: (SOURCE_REFERENCE,)}
 WITHOUT_SOURCE = (UNARY, EXCHANGE, FRAME, CALL, OTHER, *JUMPS, LABEL, HALT)
 
 
@@ -146,7 +146,7 @@ def source_allowed(row):
 
 
 def operands_allowed(row, tables):
-    if row.family in (ARITHMETIC, LOGIC, UNARY, MOVE):
+    if row.family in (ARITHMETIC, LOGIC, UNARY, MOVE, CONVERT):
         return row.second == 0 and row.second_index == 0
     if row.family == LOAD:
         return row.second_index == 0
@@ -168,7 +168,7 @@ def operands_allowed(row, tables):
 
 
 def instruction_allowed(row, tables):
-    return (row.family <= HALT and row.operator < OPERATORS.get(row.family, 1)
+    return (row.family <= CONVERT and row.operator < OPERATORS.get(row.family, 1)
             and source_allowed(row) and operands_allowed(row, tables))
 
 

@@ -65,6 +65,23 @@ def shifted(operator, value, count, width):
     return (signed(value, width) >> count) % (1 << width)
 
 
+LEAST_INTEGER, MOST_INTEGER = -2 ** 63, 2 ** 63 - 1
+
+
+def nearest_real(word):
+    """"the nearest binary64, ties to even": so Python rounds an int."""
+    return bits_of(float(signed(word)))
+
+
+def whole_part(word):
+    """A REAL "drops the fraction", as Python's int does; None for "a NaN, an infinity or a value outside -2^63 to 2^63-1"."""
+    real = real_of(word)
+    if not math.isfinite(real):
+        return None
+    whole = int(real)
+    return whole % WORD if LEAST_INTEGER <= whole <= MOST_INTEGER else None
+
+
 EQ, GE, GT, LE, LT = range(5)
 
 

@@ -94,3 +94,7 @@ module _ {regions cells : List ℕ} {x : Instruction} {n : NamedRegions} {a : Ad
   pub unless-reach : x .family ≡ family.jumpUnless → There cells (a .first)
   unfolding indexesFirst operandsOf caseOf
   unless-reach e = first-there e refl
+
+  pub convert-reach : x .family ≡ family.convert → There cells (a .source)
+  unfolding caseOf formAllowed
+  convert-reach e = in-cells (p .layout) (p .source (rw e at (p .form)))

@@ -21,7 +21,8 @@ use Rattle.journal.specs.Each.{Each, none, also}
 use Rattle.operands.specs.Address.{indexedOf, namesOf, addressesOf}
 use Rattle.operands.specs.Cells.{cellKind, readOf, sourceOf, offsetOf, conditionOf}
 use Rattle.operators.specs.Operators.{arithmeticKinds, arithmeticResult, comparisonKinds, logicKinds, logicResult, unaryKinds}
-use Rattle.machine.specs.Families.{putInto, noWrites, families, combinedOf, arithmeticOf, comparisonOf, logicOf, unaryOf, moveOf, exchangeOf, loadOf, storeOf, conditionalOf, familyOf}
+use Rattle.operators.specs.Convert.{convertKinds, convertResult}
+use Rattle.machine.specs.Families.{putInto, noWrites, families, combinedOf, arithmeticOf, comparisonOf, logicOf, unaryOf, moveOf, exchangeOf, loadOf, storeOf, conditionalOf, convertOf, familyOf}
 use Rattle.machine.specs.Outcome.{plainOutcome}
 use Rattle.operands.specs.declared.cell.Value.{Value}
 use Rattle.operands.specs.declared.address.NamedRegions.{NamedRegions}
@@ -39,7 +40,7 @@ Within regions w = w .cell < cellCount regions
 pub single : {A : Type 0} {P : A → Type 0} {x : A} → P x → Each P (x ∷ [])
 single p = also p none
 
--- how many changes a row of each family makes: "exchange 2"; "Frame, NOP: no change"
+-- how many changes a row of each family makes: "exchange 2"; "Frame, NOP: no change". 02, P5: "Each is one change"
 abbrev pub changes : List (ℕ × ℕ)
 changes =
     (family.arithmetic, 1)
@@ -50,6 +51,7 @@ changes =
     ∷ (family.exchange, 2)
     ∷ (family.load, 1)
     ∷ (family.store, 1)
+    ∷ (family.convert, 1)
     ∷ []
 
 unfoldable pub changesOf : ℕ → ℕ
@@ -134,6 +136,11 @@ module _ {regions : List ℕ} (laid : Laid regions) (cells : List ℕ) where
     unfolding conditionalOf
     conditional-within = bind (any (conditionOf cells (a .first))) (λ w u. fine (record { within = none; count = refl }))
 
+    convert-within : a .first < cellCount regions → Reaches 1 (convertOf cells a)
+    unfolding convertOf
+    convert-within h =
+        bind (any (readOf cells (a .source))) (λ s u. tested noRule (convertKinds (s .kind)) tt (λ e. bind (any (convertResult (s .kind) (s .word))) (λ w u. once h)))
+
     family-within : (f : ℕ) → Row f
     unfolding changesOf caseOf indexesFirst indexesSecond namesFirst operandsOf arithmeticOf logicOf
     family-within f =
@@ -149,6 +156,7 @@ module _ {regions : List ℕ} (laid : Laid regions) (cells : List ℕ) where
         ∷ (family.store, λ q t. picked 1 q (store-within (t .region refl)))
         ∷ (family.jumpWhen, λ q t. picked 0 q conditional-within)
         ∷ (family.jumpUnless, λ q t. picked 0 q conditional-within)
+        ∷ (family.convert, λ q t. picked 1 q (convert-within (t .first refl)))
         ∷ []
         )
         f

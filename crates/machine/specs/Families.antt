@@ -1,4 +1,4 @@
--- What a row of each family does, from its operands' cells on. 01, Order: "18 row's cells, 14 index from a cell, 18 cell reached, 15, 16", then the writes.
+-- What a row of each family does, from its operands' cells on. 01, Order: "18 row's cells, 14 index from a cell, 18 cell reached, 15, 16", and 02, P5: 23 "after 16"; then the writes.
 use Prim.Native.Nat.{ℕ}
 use mathlib.Core.Bool.{Bool}
 use mathlib.Core.List.{List, [], _∷_}
@@ -13,6 +13,7 @@ use Rattle.tables.specs.declared.rows.Instruction.{Instruction}
 use Rattle.operands.specs.Cells.{cellKind, readOf, sourceOf, offsetOf, conditionOf, write}
 use Rattle.operands.specs.Address.{indexedOf}
 use Rattle.operators.specs.Operators.{arithmeticKinds, arithmeticResult, comparisonKinds, comparisonResult, logicKinds, logicResult, unaryKinds, unaryResult}
+use Rattle.operators.specs.Convert.{convertKinds, convertedKind, convertResult}
 use Rattle.operands.specs.declared.cell.Value.{Value}
 use Rattle.journal.specs.declared.cells.Write.{Write}
 use Rattle.operands.specs.declared.address.NamedRegions.{NamedRegions}
@@ -108,6 +109,15 @@ storeOf regions cells x n a = do
 abbrev pub noWrites : Outcome (List Write)
 noWrites = ok []
 
+-- 02, P5: "its first name and index the destination, its source a reference whose cell's kind picks the direction". The destination is only overwritten: it gets
+-- the other kind, whatever it held.
+unfoldable pub convertOf : List ℕ → Addresses → Outcome (List Write)
+convertOf cells a = do
+  s ← readOf cells (a .source)
+  need (convertKinds (s .kind)) noRule
+  w ← convertResult (s .kind) (s .word)
+  ok (one (a .first) (convertedKind (s .kind)) w)
+
 -- 02, P4: a jump with a condition reads it and changes nothing. Where a row leads is in control_flow/specs/Next.antt.
 unfoldable pub conditionalOf : List ℕ → Addresses → Outcome (List Write)
 conditionalOf cells a = do
@@ -126,6 +136,7 @@ families regions cells x n a =
     ∷ (family.store, storeOf regions cells x n a)
     ∷ (family.jumpWhen, conditionalOf cells a)
     ∷ (family.jumpUnless, conditionalOf cells a)
+    ∷ (family.convert, convertOf cells a)
     ∷ []
 
 -- by the family; the rest are frame rows, NOP, JUMP, LABEL and HALT, as 9 and CALL were looked for before

@@ -1,6 +1,6 @@
 // What a row of each family does, from its operands' cells on.
 ghost use mathlib.Core.Path.{_≡_};
-ghost use Rattle.machine.specs.Families.{putInto, arithmeticOf, comparisonOf, logicOf, unaryOf, moveOf, exchangeOf, loadOf, storeOf, conditionalOf, familyOf};
+ghost use Rattle.machine.specs.Families.{putInto, arithmeticOf, comparisonOf, logicOf, unaryOf, moveOf, exchangeOf, loadOf, storeOf, convertOf, conditionalOf, familyOf};
 ghost use Rattle.machine.specs.Outcome.{rowOutcome};
 ghost use Rattle.operands.specs.Reach.{There};
 ghost use Rattle.machine.specs.Reach.{TargetAndSource, Compared, Exchanged, Loading, Storing, Placed};
@@ -17,12 +17,17 @@ use operands::cell::Value;
 use operands::cell::read_as;
 use operands::cell::read_cell;
 use operands::cell::read_source;
+use operators::convert::convert_kinds;
+use operators::convert::convert_result;
+use operators::convert::converted_kind;
 use tables::family;
 use tables::refusal::INDEX_PAST_LENGTH;
 use tables::refusal::NEGATIVE_SHIFT_COUNT;
 use tables::refusal::NO_RULE;
+use tables::refusal::OUTSIDE_INTEGER;
 use tables::refusal::ZERO_DIVISOR;
 use tables::rows::Instruction;
+use words::convert::Converted;
 use words::integer::Quotient;
 use words::kind;
 use words::width;
@@ -225,6 +230,27 @@ pub fn store(
     put_into(cells, c, s)
 }
 
+// The source's cell picks the direction; the destination is only overwritten.
+fn convert(cells: &[u64], a: Addresses) -> RowOutcome
+    requires { ⌜ There (now cells) (a .source) ⌝ }
+    ensures { λ r. ⌜ rowOutcome r ≡ convertOf (now (cells .entry)) a ⌝ }
+{
+    let Read::Holds(s) = read_cell(cells, a.source) else {
+        return RowOutcome::Refused(NO_RULE);
+    };
+    if !convert_kinds(s.kind) {
+        return RowOutcome::Refused(NO_RULE);
+    }
+    let Converted::Word(word) = convert_result(s.kind, s.word) else {
+        return RowOutcome::Refused(OUTSIDE_INTEGER);
+    };
+    RowOutcome::One(Write {
+        cell: a.first,
+        kind: converted_kind(s.kind),
+        word,
+    })
+}
+
 // A jump with a condition, which is read for its kind: it changes nothing.
 fn conditional(cells: &[u64], a: Addresses) -> RowOutcome
     requires { ⌜ There (now cells) (a .first) ⌝ }
@@ -259,6 +285,7 @@ pub fn family_outcome(
         family::STORE => store(regions, cells, x, n, a),
         family::JUMP_WHEN => conditional(cells, a),
         family::JUMP_UNLESS => conditional(cells, a),
+        family::CONVERT => convert(cells, a),
         _ => RowOutcome::NoWrites,
     }
 }

@@ -17,6 +17,7 @@ pub fn names_first(family: u64) -> bool
         family::STORE => true,
         family::JUMP_WHEN => true,
         family::JUMP_UNLESS => true,
+        family::CONVERT => true,
         _ => false,
     }
 }
@@ -35,6 +36,7 @@ pub fn indexes_first(family: u64) -> bool
         family::STORE => false,
         family::JUMP_WHEN => true,
         family::JUMP_UNLESS => true,
+        family::CONVERT => true,
         _ => false,
     }
 }
@@ -53,6 +55,7 @@ pub fn names_second(family: u64) -> bool
         family::STORE => true,
         family::JUMP_WHEN => false,
         family::JUMP_UNLESS => false,
+        family::CONVERT => false,
         _ => false,
     }
 }
@@ -71,6 +74,7 @@ pub fn indexes_second(family: u64) -> bool
         family::STORE => true,
         family::JUMP_WHEN => false,
         family::JUMP_UNLESS => false,
+        family::CONVERT => false,
         _ => false,
     }
 }

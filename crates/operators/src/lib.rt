@@ -1,4 +1,6 @@
-// Which operand kinds have a rule, and the result of each operator. The loader lets no other operator pass: the rest arms are never reached.
+// Which operand kinds have a rule, and the result of each operator; CONVERT apart. The loader lets no other operator pass: the rest arms are never reached.
+pub mod convert;
+
 ghost use mathlib.Core.Path.{_≡_};
 ghost use Rattle.operators.specs.Operators.{ownKind, arithmeticKinds, quotientOutcome, integerResult, realResult, arithmeticResult, comparisonKinds, integerTest, realTest, comparisonTest, comparisonResult, logicKinds, shiftedOutcome, logicResult, unaryKinds, negated, unaryResult};
 use reals::real;

@@ -53,6 +53,7 @@ most-counted f =
     ∷ (family.frame, omega arith)
     ∷ (family.call, omega arith)
     ∷ (family.other, omega arith)
+    ∷ (family.convert, omega arith)
     ∷ []
     )
     f

@@ -17,6 +17,7 @@ use Rattle.journal.specs.Position.{firstPosition}
 use Rattle.journal.specs.Cells.{cellWidth}
 use Rattle.operands.specs.Kinds.{zeros}
 use Rattle.control_flow.specs.Condition.{conditionsFit}
+use Rattle.operators.specs.Convert.{conversionsFit}
 use Rattle.session.specs.Prepare.{tablesLook, preparedOf}
 use Rattle.session.specs.Leaves.{withTail}
 use Rattle.session.specs.declared.answer.OpenAnswer.the-variants.{Opened}
@@ -33,6 +34,7 @@ pub record Accepts (t : Tables) (memory : List ℕ) (words : ℕ) : Type 0 where
   pub verdict : tablesVerdict t ≡ L.Accepted
   pub checked : checkOf (t .regions) (t .nodes) (t .instructions) ≡ T.Accepted
   pub conditions : conditionsFit (t .regions) (t .instructions) ≡ true
+  pub conversions : conversionsFit (t .regions) (t .instructions) ≡ true
   pub zeroed : openTables t memory words .memory ≡ zeros (t .regions) ++ drop (cellWidth * cellCount (t .regions)) memory
 
 -- only an accepted program is opened
@@ -55,13 +57,14 @@ unfaulted : (v : Verdict) (rest : OpenLook) → unlessError v rest ≡ L.Accepte
 unfaulted T.Accepted rest e = (refl, e)
 unfaulted (T.Error x) rest e = let z : _≡_ {A = ℕ} 0 1 = cc in absurd (omega arith)
 
--- behind 9, 20 and 21
-conditioned : (t : Tables) → programLook t ≡ ok tt → conditionsFit (t .regions) (t .instructions) ≡ true
+-- 21 and 22, behind 9 and 20
+looked-over : (t : Tables) → programLook t ≡ ok tt → (conditionsFit (t .regions) (t .instructions) ≡ true) × (conversionsFit (t .regions) (t .instructions) ≡ true)
 unfolding programLook
-conditioned t e =
+looked-over t e =
     let (o, e₁) = passed (noOther (t .instructions)) _ _ _ e in
     let (l, e₂) = passed (labelsFit (t .instructions)) _ _ _ e₁ in
-    passed (conditionsFit (t .regions) (t .instructions)) _ _ _ e₂ .0
+    let (c, e₃) = passed (conditionsFit (t .regions) (t .instructions)) _ _ _ e₂ in
+    (c, passed (conversionsFit (t .regions) (t .instructions)) _ _ _ e₃ .0)
 
 pub accepts : (t : Tables) (memory : List ℕ) (words : ℕ) → openTables t memory words .answer ≡ Opened firstPosition → Accepts t memory words
 unfolding openTables withTail openVerdict tablesVerdict programVerdict openCells
@@ -78,6 +81,7 @@ accepts t memory words e =
       facts = session.prepared t (length memory) words given;
       verdict = p .rest-is;
       checked = checked;
-      conditions = conditioned t (looked .given);
+      conditions = looked-over t (looked .given) .0;
+      conversions = looked-over t (looked .given) .1;
       zeroed = ap (λ (v : OpenLook). openCells (t .regions) (take w memory) v .memory ++ drop w memory) verdict;
     }

@@ -6,7 +6,7 @@ use Rattle.tables.specs.Tables.{Tables}
 use Rattle.soundness.specs.Sound.{Checked, Sound}
 use Rattle.soundness.proofs.Sound as soundness
 use Rattle.sequence.specs.Claim.{Demand3}
-use Rattle.sequence.specs.JournalLength.{JournalEnough, StepEntries}
+use Rattle.sequence.specs.JournalLength.{JournalEnough, StepEntries, ConvertEntries}
 use Rattle.sequence.proofs.Opened.{Accepts, accepts}
 use Rattle.sequence.proofs.Sequence.{faithful}
 use Rattle.sequence.proofs.JournalLength.{enough}
@@ -15,7 +15,7 @@ use Rattle.sequence.proofs.StepEntries as every-forward
 -- what an accepted open says of every row
 sound : (t : Tables) → ((i : ℕ) → getD (t .instructions) i 0 < 2 ^ 64) → {memory : List ℕ} {journal : ℕ} → Accepts t memory journal → Sound t
 sound t words a =
-    let checked : Checked t = record { loads = a .facts .loads; passes = a .checked; conditions = a .conditions; laid = record { few = a .facts .few }; words = words } in
+    let checked : Checked t = record { loads = a .facts .loads; passes = a .checked; conditions = a .conditions; conversions = a .conversions; laid = record { few = a .facts .few }; words = words } in
     soundness.sound t checked
 
 -- "Demand 3 is a single claim about the whole list, not one for each call."
@@ -28,3 +28,7 @@ journal-enough t memory journal words e calls = let a = accepts t memory (length
 -- 02, P4: "with them each step uses at most 65 entries"
 pub step-entries : StepEntries
 step-entries = every-forward.step-entries
+
+-- 02, P5: "Each is one change in the sequence theorem"
+pub convert-entries : ConvertEntries
+convert-entries = every-forward.convert-entries

@@ -38,6 +38,7 @@ use Rattle.operands.specs.Kinds.{regionAmong, regionOf, declaredKind, zerosFrom
 use Rattle.operands.specs.Cells.{readOf, sourceOf, readWord}
 use Rattle.operands.specs.Address.{addressOf, indexFits, indexedOf, namedOf, namesOf, writtenOf, addressesOf}
 use Rattle.operators.specs.Operators.{integerResult, arithmeticResult, logicResult}
+use Rattle.operators.specs.Convert.{conversionFits, conversionsFit}
 use Rattle.machine.specs.Families as families
 use Rattle.machine.specs.Outcome.{plainOutcome, outcomeOf, outcomeAt}
 use Rattle.control_flow.specs.Next.{nextRow}
@@ -122,7 +123,7 @@ unfolding fitsKind widthOf lowBits signed wordOf integerIsNegative integerDivide
     operandsOf namesFirst namesSecond indexesFirst indexesSecond zeros zerosFrom declaredKind regionOf regionAmong outcomeAt outcomeOf plainOutcome namesOf namedOf addressesOf writtenOf indexedOf indexFits addressOf
     readOf sourceOf readWord families.familyOf families.putInto families.combinedOf families.arithmeticOf families.logicOf families.moveOf families.exchangeOf
     families.loadOf arithmeticResult integerResult logicResult
-    openTables openCells openVerdict tablesVerdict programVerdict preparedOf tablesLook buffersFit programLook noOther labelsFit labelsDistinct targetsPresent labelled conditionsFit conditionFits callsLook callLook withTail
+    openTables openCells openVerdict tablesVerdict programVerdict preparedOf tablesLook buffersFit programLook noOther labelsFit labelsDistinct targetsPresent labelled conditionsFit conditionFits conversionsFit conversionFits callsLook callLook withTail
     nextRow forwardTables stepped forwardLook placedLook stepLook roomFor positionFits backTables takenBack backLook journalLook answers end
 run nodes program entries calls =
     let t : Tables = tablesOf declarations [] [] nodes [] program in

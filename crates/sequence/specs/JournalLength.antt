@@ -1,7 +1,7 @@
--- 02, P2 and P4: what is claimed of a journal's length after an accepted open, and of the entries that a step uses. To be read without the proofs; Top.antt in proofs/ has the theorems.
+-- 02, P2, P4 and P5: what is claimed of a journal's length after an accepted open, and of the entries that a step uses. To be read without the proofs; Top.antt in proofs/ has the theorems.
 -- The quoted sentences are 02's.
 use mathlib.Core.Path.{_≡_}
-use mathlib.Core.Bool.{false}
+use mathlib.Core.Bool.{true, false}
 use mathlib.Core.List.{List}
 use Prim.Native.Nat.{ℕ, _+_, _^_, _<_, _≤_}
 use lib.ListN.{length, getD}
@@ -12,6 +12,7 @@ use Rattle.labels.specs.Labels.{isJump}
 use Rattle.journal.specs.declared.position.Position.{Position}
 use Rattle.journal.specs.Position.{firstPosition}
 use Rattle.journal.specs.Each.{Each}
+use Rattle.operators.specs.Convert.{isConvert}
 use Rattle.session.specs.Prepare.{entriesOf}
 use Rattle.session.specs.declared.answer.OpenAnswer.the-variants.{Opened}
 use Rattle.session.specs.declared.answer.StepAnswer.the-variants.{Moved}
@@ -55,3 +56,9 @@ abbrev pub StepEntries : Type 0
 StepEntries =
     (t : Tables) (memory journal : List ℕ) (p p′ : Position) (reply : List ℕ)
     → forwardTables t memory journal p reply .answer ≡ Moved p′ → p′ .used ≤ p .used + 65
+
+-- P5: "Each is one change in the sequence theorem": a forward over a CONVERT that moves uses two entries, its change's and the closing one
+abbrev pub ConvertEntries : Type 0
+ConvertEntries =
+    (t : Tables) (memory journal : List ℕ) (p p′ : Position) (reply : List ℕ) → isConvert (instructionAt (t .instructions) (p .row)) ≡ true
+    → forwardTables t memory journal p reply .answer ≡ Moved p′ → p′ .used ≡ p .used + 2

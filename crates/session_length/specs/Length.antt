@@ -16,7 +16,7 @@ lengthAnswer instructions L.Accepted = Entries (journalLength instructions)
 lengthAnswer instructions (L.Refused number) = Refused number
 lengthAnswer instructions (L.Error e) = Error e
 
--- open's looks without the buffers: 1, 2, 3, 10, 5, 9, 20, 21, then 6, 7, 8 by row
+-- open's looks without the buffers: 1, 2, 3, 10, 5, 9, 20, 21, 22, then 6, 7, 8 by row
 unfoldable pub lengthTables : Tables → LengthAnswer
 lengthTables t = lengthAnswer (t .instructions) (tablesVerdict t)
 

@@ -1,11 +1,11 @@
--- 01, Order: "Open: 1, 2, 3, 10, 4, 5, 9, then 6, 7, 8 by row."; 02, P4: "after 9 and before the calls" 20, "and then in open alone" 21.
+-- 01, Order: "Open: 1, 2, 3, 10, 4, 5, 9, then 6, 7, 8 by row."; 02, P4: "after 9 and before the calls" 20, "and then in open alone" 21; P5: "in open after 21" 22.
 use Prim.Native.Nat.{ℕ, _*_, _<_, _≤_}
 use mathlib.Core.Bool.{Bool, true, false, not, cond}
 use mathlib.Core.List.{List, []}
 use mathlib.Core.Path.{_≡_}
 use lib.ListN.{length}
 use Rattle.tables.specs.Family as family
-use Rattle.tables.specs.Refusal.{otherInstruction, unfitLabels, conditionNotBit}
+use Rattle.tables.specs.Refusal.{otherInstruction, unfitLabels, conditionNotBit, unfitConversion}
 use Rattle.tables.specs.Outcome.{Outcome, ok, refuse, _>>_, need}
 use Rattle.tables.specs.First.{first, every}
 use Rattle.tables.specs.Tables.{Tables, tablesOf}
@@ -23,6 +23,7 @@ use Rattle.operands.specs.Kinds.{zeros}
 use Rattle.operands.specs.Reach.{Layout}
 use Rattle.machine.specs.Outcome.{isCall, isOther}
 use Rattle.control_flow.specs.Condition.{conditionsFit}
+use Rattle.operators.specs.Convert.{conversionsFit}
 use Rattle.session.specs.Prepare.{tablesLook, preparedOf}
 use Rattle.session.specs.Leaves.{Leaves, leaves, withTail}
 use Rattle.session.specs.declared.answer.OpenAnswer.{OpenAnswer}
@@ -54,12 +55,13 @@ callsFrom t row n = first (λ k. isRefused (callLook t k)) (callLook t) (ok tt) 
 unfoldable pub callsLook : Tables → Outcome (Unit {0})
 callsLook t = callsFrom t 0 (instructionRows (t .instructions))
 
--- 9, 20, 21, then 6, 7, 8 by row
+-- 9, 20, 21, 22, then 6, 7, 8 by row
 unfoldable pub programLook : Tables → Outcome (Unit {0})
 programLook t = do
   need (noOther (t .instructions)) otherInstruction
   need (labelsFit (t .instructions)) unfitLabels
   need (conditionsFit (t .regions) (t .instructions)) conditionNotBit
+  need (conversionsFit (t .regions) (t .instructions)) unfitConversion
   callsLook t
 
 -- What the functions over a program's rows ask for, index safety alone; and their tables, as these looks see no node.
@@ -89,7 +91,7 @@ programVerdict t =
     (unlessRefused (programLook t)
     L.Accepted)
 
--- 1, 2, 3, 10, 5, 9, 20, 21, then 6, 7, 8 by row: open's looks without the buffers
+-- 1, 2, 3, 10, 5, 9, 20, 21, 22, then 6, 7, 8 by row: open's looks without the buffers
 unfoldable pub tablesVerdict : Tables → OpenLook
 tablesVerdict t = unlessRefused (tablesLook t) (programVerdict t)
 

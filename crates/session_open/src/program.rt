@@ -1,4 +1,4 @@
-// Open's looks at the program's rows: 9, 20 and 21 of any row, then 6, 7 and 8 row by row.
+// Open's looks at the program's rows: 9, 20, 21 and 22 of any row, then 6, 7 and 8 row by row.
 ghost use mathlib.Core.Path.{_≡_};
 ghost use Prim.Native.Nat.{_<_};
 ghost use Rattle.tables.specs.Rows.{instructionRows};
@@ -9,10 +9,12 @@ use extern_call::call::CallAnswer;
 use extern_call::call::resolves;
 use labels::labels::labels_fit;
 use machine::outcome::is_other;
+use operators::convert::conversions_fit;
 use tables::family;
 use tables::look::Look;
 use tables::refusal::CONDITION_NOT_BIT;
 use tables::refusal::OTHER_INSTRUCTION;
+use tables::refusal::UNFIT_CONVERSION;
 use tables::refusal::UNFIT_LABELS;
 use tables::rows::INSTRUCTION_WIDTH;
 use tables::rows::instruction_at;
@@ -96,6 +98,9 @@ pub fn program_look(
     }
     if !conditions_fit(regions, instructions) {
         return Look::Refused(CONDITION_NOT_BIT);
+    }
+    if !conversions_fit(regions, instructions) {
+        return Look::Refused(UNFIT_CONVERSION);
     }
     calls_look(regions, externs, parameters, arguments, instructions)
 }

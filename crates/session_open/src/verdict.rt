@@ -17,7 +17,7 @@ pub enum OpenLook {
     Error(TypeError),
 }
 
-// 5, 9, 20, 21, then 6, 7 and 8 by row.
+// 5, 9, 20, 21, 22, then 6, 7 and 8 by row.
 pub fn program_verdict(
     regions: &[u64],
     externs: &[u64],

@@ -17,6 +17,7 @@ use Rattle.type_rules.specs.Judgement.{Judgement, pass, passes}
 use Rattle.type_rules.specs.Rule as T
 use Rattle.type_rules.proofs.CodeLaws.{Code, everyCode, each-code}
 use Rattle.operators.specs.Operators.{arithmeticKinds, comparisonKinds, logicKinds, unaryKinds}
+use Rattle.operators.specs.Convert.{convertKinds, convertedKind, convertible}
 
 -- ---- tests that all hold
 
@@ -128,3 +129,14 @@ storeWants d o s = declared d ∷ declared o ∷ declared s ∷ eqb o 1 ∷ comp
 pub store-wants : (d o s : ℕ) → Code 4 d → Code 4 o → Code 6 s → T.storeRule d o s ≡ pass → Trues (storeWants d o s)
 unfolding first every T.storeRule T.storeSource
 store-wants = given₃ T.storeRule storeWants refl
+
+-- what is wanted of a CONVERT's codes, by the pairs that 22 passes
+abbrev pub convertWants : ℕ → ℕ → List Bool
+convertWants d s = declared d ∷ declared s ∷ convertKinds s ∷ eqb d (convertedKind s) ∷ eqb (widthOf d) 64 ∷ []
+
+pub convert-wants : (d s : ℕ) → Code 4 d → Code 4 s → convertible d s ≡ true → Trues (convertWants d s)
+unfolding first every widthOf
+convert-wants d s c e h =
+    trues (convertWants d s)
+    (implied (convertible d s) (allOf (convertWants d s))
+    (each-code 4 (λ s. not (convertible d s) || allOf (convertWants d s)) (each-code 4 (λ d. everyCode 4 (λ s. not (convertible d s) || allOf (convertWants d s))) refl d c) s e) h)

@@ -9,7 +9,7 @@ use lib.ListN.{length}
 use borrow.Author.Tests.{leb-true}
 use Rattle.tables.specs.Cases.{caseOf}
 use Rattle.tables.specs.Family as family
-use Rattle.tables.specs.Outcome.{ok}
+use Rattle.tables.specs.Outcome.{Outcome, ok}
 use Rattle.tables.specs.Tables.{Tables}
 use Rattle.tables.specs.declared.rows.Instruction.{Instruction}
 use Rattle.tables.proofs.Cases.{by-key, past-keys}
@@ -42,16 +42,20 @@ most-few f =
     ∷ (family.exchange, omega arith)
     ∷ (family.load, omega arith)
     ∷ (family.store, omega arith)
+    ∷ (family.convert, omega arith)
     ∷ []
     )
     f
     (λ past. rw (past-keys past ((family.call, replyLimit) ∷ changes) 0 refl) (omega arith))
 
-module _ (t : Tables) (x : Instruction) (reply : List ℕ) {ws : List Write} where
+module _ (t : Tables) (x : Instruction) (reply : List ℕ) where
+  abbrev called : Outcome (List Write)
+  called = callOutcome (t .regions) (t .externs) (t .parameters) (t .arguments) x reply
+
   -- "a reply is up to 64 rows"
-  pub call-count : callOutcome (t .regions) (t .externs) (t .parameters) (t .arguments) x reply ≡ ok ws → (length ws ≡ replyRows reply) × (replyRows reply ≤ replyLimit)
+  pub call-count : {ws : List Write} → called ≡ ok ws → (length ws ≡ replyRows reply) × (replyRows reply ≤ replyLimit)
   unfolding callOutcome replyFits replyLengthFits
-  call-count e =
+  call-count {ws} e =
       let b = bound (callJudged (t .regions) (t .externs) (t .parameters) (t .arguments) x reply) _ ws e in
       let q : replyWrites (t .regions) (t .parameters) (t .arguments) (b .value) reply ≡ ws = cc (b .rest) in
       let j = judged-ok (t .regions) (t .externs) (t .parameters) (t .arguments) x (b .value) reply (b .given) in
@@ -60,11 +64,20 @@ module _ (t : Tables) (x : Instruction) (reply : List ℕ) {ws : List Write} whe
         leb-true (replyRows reply) replyLimit (both (eqb (length reply % replyWidth) 0) _ f .1),
       )
 
-  pub outcome-most : Laid (t .regions) → (cells : List ℕ) → outcomeOf t cells x reply ≡ ok ws → length ws ≤ mostChanges (x .family)
-  unfolding outcomeOf mostChanges changesOf caseOf
-  outcome-most laid cells e = at (isCall x) (passed (labelsFit (t .instructions)) _ _ _ (passed (not (isOther x)) _ _ _ e .1) .1)
-    where
-      at : (c : Bool) → cond c (callOutcome (t .regions) (t .externs) (t .parameters) (t .arguments) x reply) (plainOutcome (t .regions) cells x reply) ≡ ok ws
-          → length ws ≤ cond c replyLimit (changesOf (x .family))
-      at true e = let (n, l) = call-count e in omega arith
-      at false e = let n : length ws ≡ changesOf (x .family) = writes-count laid cells x reply e in omega arith
+  module _ {ws : List Write} (laid : Laid (t .regions)) (cells : List ℕ) (e : outcomeOf t cells x reply ≡ ok ws) where
+    -- behind 9 and 20
+    behind : cond (isCall x) called (plainOutcome (t .regions) cells x reply) ≡ ok ws
+    unfolding outcomeOf
+    behind = passed (labelsFit (t .instructions)) _ _ _ (passed (not (isOther x)) _ _ _ e .1) .1
+
+    -- of a row that is no CALL, to the number
+    pub plain-changes : isCall x ≡ false → length ws ≡ changesOf (x .family)
+    plain-changes plain = writes-count laid cells x reply (ap (λ (c : Bool). cond c called (plainOutcome (t .regions) cells x reply)) (sym plain) ∙ behind)
+
+    pub outcome-most : length ws ≤ mostChanges (x .family)
+    unfolding mostChanges changesOf caseOf
+    outcome-most = at (isCall x) refl behind
+      where
+        at : (c : Bool) → isCall x ≡ c → cond c called (plainOutcome (t .regions) cells x reply) ≡ ok ws → length ws ≤ cond c replyLimit (changesOf (x .family))
+        at true q h = let (n, l) = call-count h in omega arith
+        at false q h = let n : length ws ≡ changesOf (x .family) = plain-changes q in omega arith

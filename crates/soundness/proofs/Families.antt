@@ -2,7 +2,7 @@
 use Prim.Native.Nat.{ℕ, _^_, _<_}
 use mathlib.Core.Bool.{Bool, true}
 use mathlib.Core.List.{List}
-use mathlib.Core.Path.{_≡_, refl, sym, _∙_}
+use mathlib.Core.Path.{_≡_, refl, sym, ap, _∙_}
 use borrow.Author.Tests.{eqb-true}
 use Rattle.words.specs.Kind.{bit, widthOf, fitsKind}
 use Rattle.words.specs.Fits.{fits-of}
@@ -11,6 +11,7 @@ use Rattle.tables.specs.declared.rows.Instruction.{Instruction}
 use Rattle.journal.specs.Each.{none, also}
 use Rattle.operands.specs.Cells.{sourceOf}
 use Rattle.operators.specs.Operators.{arithmeticKinds, arithmeticResult, logicKinds, logicResult}
+use Rattle.operators.specs.Convert.{convertedKind}
 use Rattle.machine.specs.Families as F
 use Rattle.operands.specs.declared.address.NamedRegions.{NamedRegions}
 use Rattle.operands.specs.declared.address.Addresses.{Addresses}
@@ -18,7 +19,7 @@ use Rattle.machine.proofs.Ends.{Ends, Ruled, fine, bind, ruled, weaken}
 use Rattle.machine.proofs.WritesLaws.{single}
 use Rattle.operands.specs.Typed.{Typed}
 use Rattle.soundness.proofs.Regions.{Region, Cell, indexed-ends}
-use Rattle.soundness.proofs.Results.{arithmetic-ends, comparison-below, logic-ends, unary-below}
+use Rattle.soundness.proofs.Results.{arithmetic-ends, comparison-below, logic-ends, unary-below, convert-ends}
 use Rattle.soundness.proofs.Values.{Holds, Keeps, kept, kept-below, read-ends, put-ends, word-ends}
 use Rattle.soundness.proofs.Codes as C
 use Rattle.soundness.proofs.Codes.{Trues}
@@ -87,3 +88,10 @@ module _ {regions cells : List ℕ} (typed : Typed regions cells) (x : Instructi
   pub conditional-sound : Cell regions d (a .first) → d ≡ bit → Keeps regions (F.conditionalOf cells a)
   unfolding F.conditionalOf
   conditional-sound t q = bind (word-ends typed (rw q at t)) (λ w u. fine none)
+
+  pub convert-sound : Cell regions d (a .first) → Cell regions s (a .source) → Trues (C.convertWants d s) → Keeps regions (F.convertOf cells a)
+  unfolding F.convertOf
+  convert-sound t o (_, (_, (kinds, (other, (wide, _))))) =
+      bind (read-ends typed o) (λ v h. ruled (rw (h .kind-is) kinds)
+      (bind (convert-ends (v .kind) (v .word)) (λ w b.
+      fine (single (kept-below t (ap convertedKind (h .kind-is) ∙ sym (eqb-true d (convertedKind s) other)) (rw (eqb-true (widthOf d) 64 wide) b))))))

@@ -1,4 +1,4 @@
--- Each operator's result is a word of its kind, or the refusal is 15 or 16. Assumes nothing.
+-- Each operator's result is a word of its kind, or the refusal is 15, 16 or 23. Assumes nothing.
 use Prim.Native.Nat.{ℕ, _^_, _<_}
 use mathlib.Core.Bool.{Bool, true, false, not, cond, _||_}
 use mathlib.Core.List.{[], _∷_}
@@ -18,13 +18,18 @@ use Rattle.words.specs.declared.integer.Quotient.{Quotient}
 use Rattle.words.specs.declared.integer.Quotient.the-variants as Q
 use Rattle.words.specs.declared.width.Shifted.{Shifted}
 use Rattle.words.specs.declared.width.Shifted.the-variants as S
-use Rattle.tables.specs.Refusal.{zeroDivisor, negativeShiftCount}
+use Rattle.words.specs.Convert.{realToInteger}
+use Rattle.words.specs.declared.convert.Converted.{Converted}
+use Rattle.words.specs.declared.convert.Converted.the-variants as C
+use Rattle.tables.specs.Refusal.{zeroDivisor, negativeShiftCount, outsideInteger}
 use Rattle.tables.specs.Outcome.{ok}
 use Rattle.tables.specs.Cases.{caseOf}
 use Rattle.tables.specs.Operator as operator
 use Rattle.tables.proofs.Cases.{by-key, past-keys}
 use Rattle.tables.proofs.Passed.{both}
 use Rattle.operators.specs.Operators.{quotientOutcome, integerResults, integerResult, realResults, realResult, arithmeticResult, comparisonTest, comparisonResult, shiftedOutcome, logicResults, logicResult, negated, unaryResults, unaryResult}
+use Rattle.operators.specs.Convert.{convertedOutcome, convertResult}
+use Rattle.operators.proofs.ConvertLaws.{integerToReal-below, realToInteger-below}
 use Rattle.machine.proofs.Ends.{Ends, Ruled, fine, turned, either}
 
 -- ---- arithmetic
@@ -123,3 +128,13 @@ unary-below which kind v =
     )
     which
     (λ past e. rw (past-keys past (unaryResults kind v) 0 refl) (pow-pos (widthOf kind)))
+
+-- ---- CONVERT
+
+converted-ends : (a : ℕ) (answer : Converted) → realToInteger a ≡ answer → Ends Ruled (λ w. w < 2 ^ 64) (convertedOutcome answer)
+converted-ends a (C.Word r) e = fine (realToInteger-below a r e)
+converted-ends a C.Outside e = turned {n = outsideInteger} refl
+
+pub convert-ends : (source word : ℕ) → Ends Ruled (λ w. w < 2 ^ 64) (convertResult source word)
+unfolding convertResult
+convert-ends source word = either (eqb source real) (λ e. converted-ends word (realToInteger word) refl) (λ e. fine (integerToReal-below word))

@@ -1,4 +1,4 @@
--- A row that is no CALL and passes the type check and 21, on cells of the declared kinds: no 18, and every write keeps the kinds. Assumes nothing.
+-- A row that is no CALL and passes the type check, 21 and 22, on cells of the declared kinds: no 18, and every write keeps the kinds. Assumes nothing.
 use Prim.Native.Nat.{ℕ, _^_, _<_}
 use mathlib.Core.Bool.{true, false, false≢true, _||_}
 use mathlib.Core.List.{List, [], _∷_}
@@ -26,6 +26,7 @@ use Rattle.tables.specs.Names.{unused, reference, Operands, operands, operandsB
 use Rattle.operands.specs.Cells.{sourceOf}
 use Rattle.machine.specs.Families.{noWrites, conditionalOf, families, familyOf}
 use Rattle.control_flow.specs.Condition.{hasCondition}
+use Rattle.operators.specs.Convert.{convertible, isConvert}
 use Rattle.machine.specs.Outcome.{plainOutcome}
 use Rattle.operands.specs.declared.address.NamedRegions.{NamedRegions}
 use Rattle.operands.specs.declared.address.Addresses.{Addresses}
@@ -37,7 +38,7 @@ use Rattle.soundness.proofs.Codes as C
 use Rattle.soundness.proofs.Families as F
 use Rattle.soundness.proofs.Values.{Holds, Keeps, source-ends}
 
--- ---- what the loader, the type check and open's look at the conditions say of a row
+-- ---- what the loader, the type check and open's looks at conditions and conversions say of a row
 
 pub record Accepted (regions : List ℕ) (x : Instruction) : Type 0 where
   pub fit : RegionsFit regions
@@ -46,6 +47,7 @@ pub record Accepted (regions : List ℕ) (x : Instruction) : Type 0 where
   pub word : x .«source_first» < 2 ^ 64
   pub rule : eqb (x .family) family.frame ≡ false → rowRule regions x ≡ pass
   pub condition : hasCondition x ≡ true → firstCode regions x ≡ bit
+  pub conversion : isConvert x ≡ true → convertible (firstCode regions x) (referenceCode regions x) ≡ true
 
 -- ---- the row
 
@@ -177,6 +179,17 @@ module _ {regions cells : List ℕ} (typed : Typed regions cells) (x : Instructi
         λ n a p. keyed n a q (rw (does n a) (F.conditional-sound typed x n a d e s (p .first (ap (λ (o : Operands). hasIndex (o .first)) uses)) is)),
       )
 
+  -- a CONVERT: its rule passes whatever its operands are, so that there is a conversion comes from 22
+  convert-row : Row family.convert
+  unfolding caseOf operandsOf namesSecond indexesFirst formAllowed
+  convert-row q h =
+      let r = referenceCode regions x in
+      let w = C.convert-wants d r dc (name-code regions (x .«source_first»)) (k .conversion (rw q refl)) in
+      let z : namesSource (x .«source_form») ≡ true = rw q at (k .form) in (
+        record { first = λ t. below d (w .0); second = λ t. absurd (false≢true t); source = λ t. below r (w .1 .0) },
+        λ n a p. keyed n a q (F.convert-sound typed x n a d e r (p .first refl) (p .source z) w),
+      )
+
   -- a family with no operands: nothing is looked up, and nothing changes
   idle : (f : ℕ) → operandsOf f ≡ operands unused unused → formAllowed f (x .«source_form») ≡ eqb (x .«source_form») source.none
       → ((n : NamedRegions) (a : Addresses) → caseOf f (families regions cells x n a) noWrites ≡ noWrites) → Row f
@@ -206,6 +219,7 @@ module _ {regions cells : List ℕ} (typed : Typed regions cells) (x : Instructi
       ∷ (family.other, idle family.other refl refl (λ n a. refl))
       ∷ (family.jumpWhen, conditional-row family.jumpWhen refl refl refl (λ n a. refl))
       ∷ (family.jumpUnless, conditional-row family.jumpUnless refl refl refl (λ n a. refl))
+      ∷ (family.convert, convert-row)
       ∷ []
       )
       f

@@ -2,21 +2,25 @@
 use Prim.Native.Nat.{ℕ, _+_, _*_, _<_}
 use mathlib.Core.Bool.{Bool, true, false, not, cond}
 use mathlib.Core.List.{List}
-use mathlib.Core.Path.{_≡_, refl, _∙_}
+use mathlib.Core.Path.{_≡_, refl, ap₂, _∙_}
 use native.Mathlib.Omega.{arith}
 use lib.Dec.{ltb}
 use borrow.Author.Tests.{ltb-true}
 use Rattle.tables.specs.Refusal.{journalFull, noRule, otherInstruction, unfitLabels}
 use Rattle.tables.specs.Outcome.{Outcome, ok, refuse}
 use Rattle.tables.specs.Tables.{Tables}
-use Rattle.tables.specs.Rows.{instructionRows, instructionAt}
+use Rattle.tables.specs.Lookup.{lookupRegion}
+use Rattle.tables.specs.Rows.{regionKind, instructionRows, instructionAt}
+use Rattle.tables.specs.declared.lookup.Found.the-variants.{At}
 use Rattle.word_rules.specs.Instruction.{operatorsOf, formAllowed, instructionAllowed}
 use Rattle.tables.specs.declared.rows.Instruction.{Instruction}
 use Rattle.loader.proofs.Loaded.{Loaded, loaded, region-kind, instruction-allowed}
 use Rattle.tables.proofs.Cases.{among}
 use Rattle.tables.proofs.FirstLaws.{every-row}
+use Rattle.tables.proofs.LookupLaws.{region-row}
 use Rattle.tables.proofs.Passed.{both, passed}
 use Rattle.labels.specs.Labels.{labelsFit}
+use Rattle.type_rules.specs.Codes.{codeOf}
 use Rattle.type_rules.proofs.CodeLaws.{code-kind}
 use Rattle.type_check.proofs.CheckLaws.{rule-passes}
 use Rattle.journal.specs.declared.cells.Write.{Write}
@@ -26,6 +30,8 @@ use Rattle.call_reply.specs.Call.{callOutcome}
 use Rattle.machine.specs.Outcome.{isCall, isOther, plainOutcome, outcomeOf, outcomeAt}
 use Rattle.control_flow.specs.Condition.{conditionFits, conditionsFit}
 use Rattle.control_flow.proofs.ConditionLaws.{condition-bit}
+use Rattle.operators.specs.Convert.{convertible, conversionFits, conversionsFit}
+use Rattle.operators.proofs.ConvertLaws.{conversion-kinds}
 use Rattle.machine.proofs.Ends.{Ends, unmet, Ruled, tested, weaken, gives, never-met}
 use Rattle.operands.specs.Typed.{Typed}
 use Rattle.soundness.specs.Sound.{Checked, GoodWrite, Sound}
@@ -43,9 +49,13 @@ module _ (t : Tables) (checked : Checked t) where
   fit : RegionsFit (t .regions)
   fit = record { laid = checked .laid; kind = region-kind tables }
 
+  -- a declared name's code is its region's kind
+  own-code : (name : ℕ) {r : ℕ} → lookupRegion (t .regions) name ≡ At r → codeOf (t .regions) name ≡ regionKind (t .regions) r
+  own-code name {r} e = let small = region-kind tables r (region-row (t .regions) name r e) in code-kind (t .regions) name e (omega arith)
+
   -- what was looked at of a row
   accepted : (row : ℕ) → row < instructionRows (t .instructions) → Accepted (t .regions) (instructionAt (t .instructions) row)
-  unfolding instructionAllowed conditionsFit
+  unfolding instructionAllowed conditionsFit conversionsFit
   accepted row h =
       let x = instructionAt (t .instructions) row in
       let (o, e) = both (ltb (x .operator) (operatorsOf (x .family))) _ (instruction-allowed tables row h) in
@@ -59,6 +69,10 @@ module _ (t : Tables) (checked : Checked t) where
             let fits = every-row (λ k. conditionFits (t .regions) (instructionAt (t .instructions) k)) (instructionRows (t .instructions)) (checked .conditions) row h in
             let b = condition-bit (t .regions) x e fits in
             code-kind (t .regions) (x .«first_name») (b .found) (omega (arith, b .kind)) ∙ b .kind;
+        conversion = λ e.
+            let fits = every-row (λ k. conversionFits (t .regions) (instructionAt (t .instructions) k)) (instructionRows (t .instructions)) (checked .conversions) row h in
+            let b = conversion-kinds (t .regions) x e fits in
+            ap₂ convertible (own-code (x .«first_name») (b .to-found)) (own-code (x .«source_first») (b .from-found)) ∙ b .kinds;
       }
 
   -- a write of a row that is no CALL

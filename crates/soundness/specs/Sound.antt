@@ -18,18 +18,20 @@ use Rattle.journal.specs.Each.{Each}
 use Rattle.operands.specs.Kinds.{zeros}
 use Rattle.operands.specs.Reach.{Laid}
 use Rattle.operands.specs.Typed.{Fits, Typed}
+use Rattle.operators.specs.Convert.{conversionsFit}
 use Rattle.machine.specs.Outcome.{outcomeAt}
 use Rattle.control_flow.specs.Condition.{conditionsFit}
 use Rattle.soundness.specs.WriteSet.{MayChange}
 
 -- ---- what it rests on
 
--- Of open's acceptance: the loader's looks (1, 2, 3), 10, the type check (5) and the conditions (21). That every CALL resolves (6, 7, 8) and that the labels fit (20) is not used:
+-- Of open's acceptance: the loader's looks (1, 2, 3), 10, the type check (5), the conditions (21) and the conversions (22). That every CALL resolves (6, 7, 8) and that the labels fit (20) is not used:
 -- a row is refused by these numbers otherwise.
 pub record Checked (t : Tables) : Type 0 where
   pub loads : loadLook t ≡ ok tt
   pub passes : checkOf (t .regions) (t .nodes) (t .instructions) ≡ Accepted
   pub conditions : conditionsFit (t .regions) (t .instructions) ≡ true
+  pub conversions : conversionsFit (t .regions) (t .instructions) ≡ true
   -- "at most 4,096 cells"
   pub laid : Laid (t .regions)
   -- "Tables, in 64-bit words"

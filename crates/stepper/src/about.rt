@@ -1,4 +1,4 @@
-// About the current row: a CALL's resolved arguments and access sets, a frame's references and how many nodes its type check looked at, where a jump leads.
+// About the current row: a CALL's resolved arguments and access sets, a frame's references and how many nodes its type check looked at, where a jump leads, what a CONVERT gives.
 use crate::explain::show_call;
 use console::references::WalkAnswer;
 use console::references::memory_references;
@@ -9,6 +9,8 @@ use stepper_desk::current::Current;
 use stepper_desk::current::row_at;
 use stepper_desk::current::this_row;
 use stepper_desk::state::Desk;
+use stepper_faults::convert::conversion_of;
+use stepper_faults::fault::Conversion;
 use stepper_lines::line::Line;
 use stepper_lines::print::text;
 use stepper_lines::refusal::refused;
@@ -22,6 +24,7 @@ use stepper_told::errors::RESOLVE_WORDS;
 use stepper_words::heading::Table;
 use stepper_words::names::NAME_WORDS;
 use tables::family::CALL;
+use tables::family::CONVERT;
 use tables::family::FRAME;
 use tables::family::JUMP;
 use tables::family::JUMP_UNLESS;
@@ -112,8 +115,22 @@ fn leads_to(line: Line, instructions: &[u64], x: Instruction) -> Line {
     }
 }
 
+// By the kinds that its names are declared with, which are the cells' where nothing foreign wrote; a program that was turned down may have other kinds.
+fn gives(line: Line, regions: &[u64], x: Instruction) -> Line {
+    let conversion = conversion_of(regions, x);
+    match conversion {
+        Conversion::ToReal => line.text(
+            b"  as declared, INTEGER to REAL: the nearest, ties to even",
+        ),
+        Conversion::ToInteger => line.text(
+            b"  as declared, REAL to INTEGER: the fraction is dropped",
+        ),
+        _ => line.text(b"  converts nothing"),
+    }
+}
+
 fn nothing_more() {
-    text(b"there is more to tell of a CALL, a jump and a frame's row only\n");
+    text(b"there is more to tell of a CALL, a jump, a CONVERT and a frame's row only\n");
 }
 
 fn about_row(
@@ -139,6 +156,11 @@ fn about_row(
             let instructions = table(tables, Table::Instructions, lengths);
             this_row(source, names, tables, desk, row);
             leads_to(Line::new(desk.view), instructions, x).end()
+        }
+        CONVERT => {
+            let regions = table(tables, Table::Regions, lengths);
+            this_row(source, names, tables, desk, row);
+            gives(Line::new(desk.view), regions, x).end()
         }
         _ => nothing_more(),
     }

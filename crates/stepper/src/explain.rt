@@ -16,6 +16,7 @@ use tables::refusal::CONDITION_NOT_BIT;
 use tables::refusal::EXTERN_NOT_FOUND;
 use tables::refusal::NAME_TWICE;
 use tables::refusal::TABLE_SHAPE;
+use tables::refusal::UNFIT_CONVERSION;
 use tables::refusal::UNFIT_LABELS;
 use tables::refusal::WORD_NOT_ALLOWED;
 use tables::rows::INSTRUCTION_WIDTH;
@@ -54,7 +55,7 @@ fn explain_call(
     }
 }
 
-// Where open refused the tables, a label, a condition or a CALL.
+// Where open refused the tables, a label, a condition, a conversion or a CALL.
 pub fn explain_open(
     source: &[u8],
     names: &[u64; NAME_WORDS],
@@ -63,9 +64,12 @@ pub fn explain_open(
     refusal: u64,
 ) {
     match refusal {
-        TABLE_SHAPE | WORD_NOT_ALLOWED | NAME_TWICE | UNFIT_LABELS | CONDITION_NOT_BIT => {
-            explain_tables(source, names, tables, desk, refusal)
-        }
+        TABLE_SHAPE
+        | WORD_NOT_ALLOWED
+        | NAME_TWICE
+        | UNFIT_LABELS
+        | CONDITION_NOT_BIT
+        | UNFIT_CONVERSION => explain_tables(source, names, tables, desk, refusal),
         EXTERN_NOT_FOUND | ARGUMENT_COUNT => explain_call(source, names, tables, desk, false),
         ARGUMENT_ERRORS => explain_call(source, names, tables, desk, true),
         _ => {}

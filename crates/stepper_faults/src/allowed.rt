@@ -49,6 +49,7 @@ fn source_forms(family: u64) -> Allowed {
         family::MOVE => Allowed::UpTo(source::REFERENCE),
         family::LOAD => Allowed::Alone(source::REFERENCE),
         family::STORE => Allowed::UpTo(source::REFERENCE),
+        family::CONVERT => Allowed::Alone(source::REFERENCE),
         _ => Allowed::Alone(source::NONE),
     }
 }

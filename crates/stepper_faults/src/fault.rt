@@ -1,4 +1,4 @@
-// Where a refusal 1, 2, 3, 20 or 21 lies. Rows and columns count from 0.
+// Where a refusal 1, 2, 3, 20, 21 or 22 lies. Rows and columns count from 0.
 use stepper_words::heading::Table;
 
 // A row, and where its words begin in its table.
@@ -26,6 +26,18 @@ pub enum Jump {
     NotBit(u64, u64),
 }
 
+// What a CONVERT does, or what is wrong with it.
+pub enum Conversion {
+    ToReal,
+    ToInteger,
+    // The kinds that it would convert from and to.
+    Kinds(u64, u64),
+    // The destination's name, which no region has.
+    NoDestination(u64),
+    // The source's name, which no region has.
+    NoSource(u64),
+}
+
 pub enum Where {
     // The table, its words, and the words of a row.
     NotWholeRows(Table, usize, usize),
@@ -40,6 +52,7 @@ pub enum Where {
     // The table, the name or the label, and its first two rows.
     SameName(Table, u64, usize, usize),
     Jump(Row, Jump),
+    Conversion(Row, Conversion),
     Nowhere,
 }
 
@@ -77,6 +90,7 @@ impl Where {
             Where::Whole(row) => row.table,
             Where::SameName(table, _, _, _) => table,
             Where::Jump(row, _) => row.table,
+            Where::Conversion(row, _) => row.table,
             Where::Nowhere => Table::Regions,
         }
     }

@@ -1,13 +1,15 @@
 // Where a refusal lies, in the library's order of looks: of 1, 2 and 3 through all tables.
 use crate::fault::Where;
-use crate::jump::find_condition;
-use crate::jump::find_label;
+use crate::look::find_condition;
+use crate::look::find_conversion;
+use crate::look::find_label;
 use crate::name::find_name;
 use crate::shape::find_shape;
 use crate::word::find_word;
 use tables::refusal::CONDITION_NOT_BIT;
 use tables::refusal::NAME_TWICE;
 use tables::refusal::TABLE_SHAPE;
+use tables::refusal::UNFIT_CONVERSION;
 use tables::refusal::UNFIT_LABELS;
 use tables::refusal::WORD_NOT_ALLOWED;
 
@@ -26,6 +28,7 @@ pub fn find(
         NAME_TWICE => find_name(regions, externs),
         UNFIT_LABELS => find_label(regions, instructions),
         CONDITION_NOT_BIT => find_condition(regions, instructions),
+        UNFIT_CONVERSION => find_conversion(regions, instructions),
         _ => Where::Nowhere,
     }
 }

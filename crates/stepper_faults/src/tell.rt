@@ -9,6 +9,7 @@ use crate::known::row_head;
 use crate::known::shown_name;
 use crate::row::row_from;
 use crate::row::whole_row;
+use crate::tell_convert::tell_convert;
 use crate::tell_jump::tell_jump;
 use stepper_lines::print::byte;
 use stepper_lines::print::line;
@@ -136,6 +137,7 @@ fn tell_in_row(
     row_head(source, names, view, row, words);
     match at {
         Where::Jump(_, wrong) => tell_jump(source, names, view, wrong),
+        Where::Conversion(_, wrong) => tell_convert(source, names, view, wrong),
         _ => tell_row(at, words),
     }
 }
@@ -195,6 +197,7 @@ pub fn tell(source: &[u8], names: &[u64; NAME_WORDS], view: View, at: Where, tab
         Where::NotOneTree(row, _, _) => tell_in_row(source, names, view, at, row, table),
         Where::Whole(row) => tell_in_row(source, names, view, at, row, table),
         Where::Jump(row, _) => tell_in_row(source, names, view, at, row, table),
+        Where::Conversion(row, _) => tell_in_row(source, names, view, at, row, table),
         Where::Nowhere => return,
     }
     byte(b'\n');

@@ -11,7 +11,7 @@ pub fn help() {
         r        reset: opens the program again\n  \
         a        about the current row: a CALL's arguments and access sets,\n           \
         a frame's references, and how many nodes its type check looked at,\n           \
-        the row that a jump leads to\n  \
+        the row that a jump leads to, what a CONVERT gives\n  \
         c        type check of the whole program\n  \
         x        REAL words as bits, on and off\n  \
         m        more: all rows, regions and cells in full, on and off\n  \

@@ -9,8 +9,10 @@ use tables::refusal::CONDITION_NOT_BIT;
 use tables::refusal::FOREIGN_POSITION;
 use tables::refusal::JOURNAL_FULL;
 use tables::refusal::NAME_TWICE;
+use tables::refusal::OUTSIDE_INTEGER;
 use tables::refusal::TABLE_SHAPE;
 use tables::refusal::TYPE_ERROR;
+use tables::refusal::UNFIT_CONVERSION;
 use tables::refusal::UNFIT_LABELS;
 use tables::refusal::WORD_NOT_ALLOWED;
 
@@ -38,12 +40,14 @@ fn calls(refusal: u64) {
         forward\n\
         forward, run, back\n\
         open, journal_length, forward (each looks at all rows)\n\
-        open, journal_length",
+        open, journal_length\n\
+        open, journal_length\n\
+        forward",
         refusal,
     );
 }
 
-// Each kind of place, of type error and of argument error has an example of its own, each cause of 19, 20 and 21, a frame's left operand, and a journal that is long enough.
+// Each kind of place, of type error and of argument error has an example of its own, each cause of 19 to 23, a frame's left operand, and a journal that is long enough.
 fn more(refusal: u64) {
     match refusal {
         TABLE_SHAPE => text(b"- A table over its limit: `examples/refusal-1-limit.tables`\n"),
@@ -71,6 +75,12 @@ fn more(refusal: u64) {
         CONDITION_NOT_BIT => text(
             b"- A condition that is not declared: `examples/refusal-21-undeclared.tables`\n",
         ),
+        UNFIT_CONVERSION => text(
+            b"- A destination that is not declared: `examples/refusal-22-undeclared.tables`; a source: `-undeclared-source.tables`\n",
+        ),
+        OUTSIDE_INTEGER => text(
+            b"- A NaN: `examples/refusal-23-nan.tables`; an infinity: `-infinity.tables`\n",
+        ),
         _ => {}
     }
 }
@@ -92,7 +102,7 @@ fn refusal_entry(refusal: u64) {
 
 fn refusal_entries() {
     let mut refusal = TABLE_SHAPE;
-    while refusal <= CONDITION_NOT_BIT {
+    while refusal <= OUTSIDE_INTEGER {
         refusal_entry(refusal);
         refusal += 1;
     }
@@ -101,10 +111,10 @@ fn refusal_entries() {
 fn intro() {
     text(
         b"# What is turned down, and why\n\n\
-        A program, a key or a reply is turned down for one of twenty-one causes, and for no other. \
+        A program, a key or a reply is turned down for one of twenty-three causes, and for no other. \
         A call looks for them in its order and gives the first; what it is lent stays as it was, but for what it tells: with 5 the type error, in frame also the nodes looked at, and in resolve with 8 the error rows. \
         A run that comes to a step which is refused stops before it: the number is then told in its answer, and the steps that it took stay. \
-        Of 1, 2 and 3 the console names the table, and the row and the word or both rows; of 20 and 21 the row and the name, or both rows.\n\n\
+        Of 1, 2 and 3 the console names the table, and the row and the word or both rows; of 20 and 21 the row and the name, or both rows; of 22 the row and the name, or both kinds.\n\n\
         | call | looks for, in this order |\n\
         |---|---|\n\
         | check | 1, 2, 3, 5 |\n\
@@ -112,10 +122,10 @@ fn intro() {
         | resolve | 1, 2, 3, 6, 7, 4, 8 |\n\
         | access | 1, 2, 3, 6, 4 |\n\
         | walk | 1, 2 |\n\
-        | open | 1, 2, 3, 10, 4, 5, 9, 20, 21, then 6, 7, 8 row by row |\n\
-        | journal_length | 1, 2, 3, 10, 5, 9, 20, 21, then 6, 7, 8 row by row |\n\
+        | open | 1, 2, 3, 10, 4, 5, 9, 20, 21, 22, then 6, 7, 8 row by row |\n\
+        | journal_length | 1, 2, 3, 10, 5, 9, 20, 21, 22, then 6, 7, 8 row by row |\n\
         | forward, a CALL | 1, 2, 3, 10, 4, 19, 11, 9, 20, 6, 7, 8, 14, 17, 13 |\n\
-        | forward, any other row | 1, 2, 3, 10, 4, 19, 11, 9, 20, 17, 18 (names), 14 (written indices), 18 (the row's cells), 14 (an index from a cell), 18 (the cell reached), 15, 16, 13 |\n\
+        | forward, any other row | 1, 2, 3, 10, 4, 19, 11, 9, 20, 17, 18 (names), 14 (written indices), 18 (the row's cells), 14 (an index from a cell), 18 (the cell reached), 15, 16, 23, 13 |\n\
         | run | 1, 2, 3, 10, 4, 19; then, before each step, its allowance, the end, a CALL, and forward's from 9 on, which it tells as a stop |\n\
         | back | 1, 2, 3, 10, 4, 19 (position), 12, 19 (journal) |\n",
     );

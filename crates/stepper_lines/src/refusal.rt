@@ -12,6 +12,7 @@ use tables::refusal::INDEX_PAST_LENGTH;
 use tables::refusal::JOURNAL_FULL;
 use tables::refusal::NEGATIVE_SHIFT_COUNT;
 use tables::refusal::NO_RULE;
+use tables::refusal::OUTSIDE_INTEGER;
 use tables::refusal::TABLE_SHAPE;
 use tables::refusal::UNFIT_REPLY;
 
@@ -39,7 +40,9 @@ pub fn cause(refusal: u64) {
         a cell that is read has no rule: its kind or its word is foreign; or a name is not declared\n\
         the position lies past its tables or has more steps than entries, or the journal cannot be read\n\
         a label stands on two LABEL rows, or a jump goes to a label that stands on none\n\
-        the condition of a jump is not declared, or not BIT",
+        the condition of a jump is not declared, or not BIT\n\
+        a CONVERT is not between INTEGER and REAL, or one of its names is not declared\n\
+        a REAL to convert is a NaN, an infinity, or outside -2^63 to 2^63-1 after its fraction is dropped",
         refusal,
     );
 }
@@ -49,7 +52,7 @@ pub fn mender(refusal: u64) {
     match refusal {
         TABLE_SHAPE..=BUFFER_SIZE => text(b"the loader"),
         AT_END..=JOURNAL_FULL => text(b"the student"),
-        INDEX_PAST_LENGTH..=NEGATIVE_SHIFT_COUNT => text(b"the running program"),
+        INDEX_PAST_LENGTH..=NEGATIVE_SHIFT_COUNT | OUTSIDE_INTEGER => text(b"the running program"),
         UNFIT_REPLY => text(b"the extern routine"),
         NO_RULE..=FOREIGN_POSITION => text(b"the foreign writer"),
         _ => text(b"the program's author"),

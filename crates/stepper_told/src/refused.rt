@@ -16,7 +16,7 @@ use stepper_tables::held::table;
 use stepper_words::heading::Table;
 use stepper_words::names::NAME_WORDS;
 
-// Where the tables are refused, by 1, 2, 3, 20 or 21.
+// Where the tables are refused, by 1, 2, 3, 20, 21 or 22.
 pub fn explain_tables(
     source: &[u8],
     names: &[u64; NAME_WORDS],

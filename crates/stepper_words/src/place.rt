@@ -10,7 +10,7 @@ use tables::source;
 pub const ROW_WORDS: usize = 16;
 
 // Past it there is no family.
-pub const LAST_FAMILY: u64 = family::HALT;
+pub const LAST_FAMILY: u64 = family::CONVERT;
 
 // A label is a name, after `@`. A whole is an integer: a length, an index, a row, a count or an integer literal.
 pub enum Place {

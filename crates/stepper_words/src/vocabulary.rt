@@ -24,8 +24,8 @@ const ARGUMENTS: [u8; 30] = *b"identifier reference immediate";
 const SOURCES: [u8; 27] = *b"integer real reference none";
 
 // The operators, a line for each family: a family's number is its line's place, an operator's its word's.
-pub const MNEMONICS: [u8; 203] =
-    *b"ADD SUB DIV MUL\nEQ GE GT LE LT\nAND IOR XOR SHL SHR ASHR\nNEG NOT\nMOVE\nEXCHANGE\nLOAD\nSTORE\nSET-FREQUENCY SET-PHASE SET-SCALE SHIFT-FREQUENCY SHIFT-PHASE\nCALL\nNOP OTHER\nJUMP\nJUMP-WHEN\nJUMP-UNLESS\nLABEL\nHALT";
+pub const MNEMONICS: [u8; 211] =
+    *b"ADD SUB DIV MUL\nEQ GE GT LE LT\nAND IOR XOR SHL SHR ASHR\nNEG NOT\nMOVE\nEXCHANGE\nLOAD\nSTORE\nSET-FREQUENCY SET-PHASE SET-SCALE SHIFT-FREQUENCY SHIFT-PHASE\nCALL\nNOP OTHER\nJUMP\nJUMP-WHEN\nJUMP-UNLESS\nLABEL\nHALT\nCONVERT";
 
 // A family and its operator.
 pub enum Operation {

@@ -1,4 +1,4 @@
--- 01, "Families", and 02, P4, "families 11 to 15": the number of each, named as the definitions cite them.
+-- 01, "Families", and 02, P4, "families 11 to 15", and P5, "family 16": the number of each, named as the definitions cite them.
 use Prim.Native.Nat.{ℕ}
 
 abbrev pub arithmetic : ℕ
@@ -53,3 +53,7 @@ label = 14
 
 abbrev pub halt : ℕ
 halt = 15
+
+-- 02, P5: "The row is family 16, its first name and index the destination, its source a reference"
+abbrev pub convert : ℕ
+convert = 16

@@ -22,6 +22,7 @@ abbrev pub operands : Use → Use → Operands
 operands first second = record { first = first; second = second }
 
 -- 02, P4: "First name and index are the condition, second name the label": a label is no name of a region.
+-- 02, P5: "its first name and index the destination".
 -- "1 comparison (second = lhs)", "6 load (second = source region ..)", "7 store (first = destination region, second = offset)"
 abbrev pub operandsByFamily : List (ℕ × Operands)
 operandsByFamily =
@@ -35,6 +36,7 @@ operandsByFamily =
     ∷ (family.store, operands region reference)
     ∷ (family.jumpWhen, operands reference unused)
     ∷ (family.jumpUnless, operands reference unused)
+    ∷ (family.convert, operands reference unused)
     ∷ []
 
 -- the other families name no region by an operand; a frame's names are in its expression, a CALL's among its arguments

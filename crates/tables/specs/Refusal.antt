@@ -90,3 +90,13 @@ unfitLabels = 20
 -- a condition undeclared or not BIT
 abbrev pub conditionNotBit : ℕ
 conditionNotBit = 21
+
+-- Program's author, by 02, P5.
+-- a CONVERT between another pair of kinds, or of an undeclared name
+abbrev pub unfitConversion : ℕ
+unfitConversion = 22
+
+-- Running program, by 02, P5.
+-- a NaN, an infinity or a value outside -2^63 to 2^63-1 after the fraction is dropped
+abbrev pub outsideInteger : ℕ
+outsideInteger = 23

@@ -30,3 +30,5 @@ pub const JUMP_UNLESS: u64 = 13;
 pub const LABEL: u64 = 14;
 
 pub const HALT: u64 = 15;
+
+pub const CONVERT: u64 = 16;

@@ -48,3 +48,8 @@ pub const FOREIGN_POSITION: u64 = 19;
 pub const UNFIT_LABELS: u64 = 20;
 
 pub const CONDITION_NOT_BIT: u64 = 21;
+
+pub const UNFIT_CONVERSION: u64 = 22;
+
+// The running program's, by 02.
+pub const OUTSIDE_INTEGER: u64 = 23;

@@ -165,6 +165,6 @@ rules operator first second source =
     ∷ (family.store, storeRule first second source)
     ∷ []
 
--- "Families 9 and 10 pass."; so do 11 to 15. 02, P4: "The Rust's `type_check` doesn't look at the condition". A frame is judged by its nodes (Frame.antt).
+-- "Families 9 and 10 pass."; so do 11 to 16. 02, P4: "The Rust's `type_check` doesn't look at the condition"; nor does it look at CONVERT. A frame is judged by its nodes (Frame.antt).
 unfoldable pub ruleOf : ℕ → ℕ → ℕ → ℕ → ℕ → Judgement
 ruleOf family operator first second source = caseOf family (rules operator first second source) pass

@@ -34,6 +34,7 @@ operatorsByFamily =
     ∷ (family.frame, upTo operator.shiftPhase)
     ∷ (family.call, upTo unused)
     ∷ (family.other, upTo operator.anyOther)
+    ∷ (family.convert, upTo unused)
     ∷ []
 
 -- 02, P4: families 11 to 15, of control flow, have none
@@ -72,6 +73,7 @@ formsByFamily form =
     ∷ (family.frame, none)
     ∷ (family.call, none)
     ∷ (family.other, none)
+    ∷ (family.convert, eqb form source.reference)
     ∷ []
 
 -- 02, P4: "source form 3"
@@ -109,6 +111,7 @@ operandWordsByFamily nodes arguments x =
     ∷ (family.frame, second-unused && oneTree nodes (x .«first_name») (x .«first_index»))
     ∷ (family.call, eqb (x .«second_index») 0 && inside (x .«first_index») (x .«second_name») arguments)
     ∷ (family.other, eqb (x .«first_name») 0 && (eqb (x .«first_index») 0 && second-unused))
+    ∷ (family.convert, second-unused)
     ∷ []
 
 -- 02, P4: "First name and index are the condition, second name the label"

@@ -116,6 +116,7 @@ fn instruction_allowed(nodes: &[u64], ends: &[u16], arguments: usize, x: Instruc
                 x,
                 (x.first_name == 0) & ((x.first_index == 0) & second_unused),
             ),
+        family::CONVERT => up_to(UNUSED, x.operator) & reference_source(x, second_unused),
         _ => flow_allowed(x),
     }
 }

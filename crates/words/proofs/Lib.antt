@@ -6,3 +6,9 @@ pub mod Quotients
 pub mod Order
 pub mod Widths
 pub mod Shifts
+pub mod Gaps
+pub mod Units
+pub mod Distances
+pub mod Closest
+pub mod Rounds
+pub mod Cuts

@@ -1,7 +1,10 @@
--- Words of cells: the definitions (Kind, TwosComplement, Integer, Width) and their laws (WidthLaws, Fits).
+-- Words of cells: the definitions (Kind, TwosComplement, Integer, Width, Convert), their laws (WidthLaws, Fits), what CONVERT claims (Closest) and its examples (ConvertLines).
 pub mod Kind
 pub mod TwosComplement
 pub mod Integer
 pub mod Width
+pub mod Convert
 pub mod WidthLaws
 pub mod Fits
+pub mod Closest
+pub mod ConvertLines

@@ -1,4 +1,5 @@
-// Operators on the words of cells: kinds and widths, two's complement, bits. REAL's are in reals.
+// Operators on the words of cells: kinds and widths, two's complement, bits, conversions. REAL's are in reals.
+pub mod convert;
 pub mod integer;
 pub mod kind;
 pub mod width;

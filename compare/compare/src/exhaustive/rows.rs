@@ -1,5 +1,6 @@
 //! One-row programs: every family without trees and arguments, operator, source form, and kind of every operand,
-//! undeclared too; operands that share a name; names around 0 and 2^64-1. Jumps, LABEL and HALT also among other rows.
+//! undeclared too; operands that share a name; names around 0 and 2^64-1. Jumps, LABEL, HALT and CONVERT also among other
+//! rows.
 use super::{CHOICES, UNDECLARED};
 use crate::program::{Program, Row};
 
@@ -48,6 +49,7 @@ pub fn each(visit: &mut dyn FnMut(Program)) {
         visit(Program { rows: vec![Row::Plain([10, operator, 0, 0, 0, 0, 3, 0, 0])], ..Program::default() });
     }
     each_flow(visit);
+    each_convert(visit);
 }
 
 /// Families 11 to 15: the condition of each kind and undeclared, its label on no LABEL row, on one or on two; alone,
@@ -77,12 +79,29 @@ fn flow(family: u64, [condition, index]: [u64; 2], label: u64) -> [u64; 9] {
 fn flow_program(row: [u64; 9], operand: (u64, u64), [label, other]: [u64; 2], labels: usize, after: u64) -> Program {
     let mut program = program(&[operand], false, row);
     program.rows.splice(0..0, vec![Row::Plain(flow(14, [0, 0], label)); labels]);
-    if after > 0 {
-        // NEG of an INTEGER or an OCTET.
-        program.regions.push([other, after, 1]);
-        program.rows.push(Row::Plain([3, 0, other, 0, 0, 0, 3, 0, 0]));
+    match after {
+        0 => program,
+        kind => with_neg(program, other, kind),
     }
+}
+
+/// NEG of an INTEGER, which passes, or of an OCTET after the rows.
+fn with_neg(mut program: Program, name: u64, kind: u64) -> Program {
+    program.regions.push([name, kind, 1]);
+    program.rows.push(Row::Plain([3, 0, name, 0, 0, 0, 3, 0, 0]));
     program
+}
+
+/// Every pair of operands, under each way of naming them; alone, and with a row after it that passes or fails.
+fn each_convert(visit: &mut dyn FnMut(Program)) {
+    for (first, source) in CHOICES.iter().flat_map(|&first| CHOICES.iter().map(move |&source| (first, source))) {
+        each_naming(16, 0, first, UNDECLARED, Source::Reference(source), &mut |program| {
+            visit(program.clone());
+            for kind in [1, 2] {
+                visit(with_neg(program.clone(), 2000, kind));
+            }
+        });
+    }
 }
 
 /// The row under each way of naming its operands: three stocks of names, and operands of one choice with one name.

@@ -22,11 +22,12 @@ pub struct Rows<'a> {
 
 impl Rows<'_> {
     pub fn row(&mut self) -> Row {
-        match self.random.below(16) {
+        match self.random.below(17) {
             family @ 0..=7 => Row::Plain(self.plain(family)),
             8..=9 => Row::Frame { operator: self.random.below(5), nodes: self.nodes() },
             10..=12 => self.call(),
             13 => Row::Plain([10, self.random.below(2), 0, 0, 0, 0, 3, 0, 0]),
+            14 => Row::Plain(self.convert()),
             _ => Row::Plain(self.flow()),
         }
     }
@@ -40,6 +41,13 @@ impl Rows<'_> {
             2 => [15, 0, 0, 0, 0, 0, 3, 0, 0],
             family => [9 + family, 0, self.name(&[0]), index, label, 0, 3, 0, 0],
         }
+    }
+
+    /// Of any two kinds without care: the check passes it unseen.
+    fn convert(&mut self) -> [u64; 9] {
+        let [to, from] = self.random.pick(&[[1, REAL], [REAL, 1]]);
+        let [i, j] = [word(self.random), word(self.random)];
+        [16, 0, self.name(&[to]), i, 0, 0, 2, self.name(&[from]), j]
     }
 
     fn careful(&mut self) -> bool {

@@ -106,6 +106,11 @@ pub fn label(label: u64) -> [u64; 9] {
     [14, 0, 0, 0, label, 0, 3, 0, 0]
 }
 
+pub fn convert(destination: [u64; 2], source: [u64; 2]) -> [u64; 9] {
+    let ([to, i], [from, j]) = (destination, source);
+    [16, 0, to, i, 0, 0, 2, from, j]
+}
+
 /// n[0] counted down from so many in steps of one, by a[0]; then n[1] becomes 5.
 pub fn countdown(from: i64) -> [[u64; 9]; 6] {
     let (less, positive) = ([0, 1, N, 0, 0, 0, 0, 1, 0], [1, 2, A, 0, N, 0, 0, 0, 0]);

@@ -6,7 +6,7 @@ use Rattle.machine.specs.Families.{noWrites, families, familyOf}
 use Rattle.tables.specs.Cases.{caseOf}
 use Rattle.tables.specs.Outcome.{Outcome}
 use Rattle.tables.proofs.Cases.{other-arm, at-key}
-use Rattle.machine.proofs.Reaches.{arithmetic-reach, comparison-reach, logic-reach, unary-reach, move-reach, exchange-reach, load-reach, store-reach, when-reach, unless-reach}
+use Rattle.machine.proofs.Reaches.{arithmetic-reach, comparison-reach, logic-reach, unary-reach, move-reach, exchange-reach, load-reach, store-reach, when-reach, unless-reach, convert-reach}
 use Rattle.machine.proofs.family.family_outcome.Statement.{statement}
 use Rattle.machine.proofs.family.family_outcome.Tie as tie
 
@@ -42,6 +42,9 @@ conditional-requires c κs = when-reach (c .before .before .before .pre) (c .mat
 
 conditional-requires-2 : tie.Need-conditional-requires-2
 conditional-requires-2 c κs = unless-reach (c .before .before .before .pre) (c .match .keys10)
+
+convert-requires : tie.Need-convert-requires
+convert-requires c κs = convert-reach (c .before .before .before .pre) (c .match .keys11)
 
 returns : tie.Need-returns
 unfolding familyOf caseOf
@@ -84,8 +87,12 @@ unfolding familyOf caseOf
 returns-10 c = c .conditional2 .ensures ∙ at-key (all (c .before .before .before .before)) noWrites (c .before .match .keys10)
 
 returns-11 : tie.Need-returns-11
+unfolding familyOf caseOf
+returns-11 c = c .convert .ensures ∙ at-key (all (c .before .before .before .before)) noWrites (c .before .match .keys11)
+
+returns-12 : tie.Need-returns-12
 unfolding familyOf
-returns-11 c = other-arm (all (c .before .before .before)) noWrites _ (c .match .rest)
+returns-12 c = other-arm (all (c .before .before .before)) noWrites _ (c .match .rest)
 
 pub family-outcome-spec : {M : Type 1} → statement M
 family-outcome-spec =
@@ -101,6 +108,7 @@ family-outcome-spec =
     store-requires
     conditional-requires
     conditional-requires-2
+    convert-requires
     returns
     returns-2
     returns-3
@@ -111,4 +119,5 @@ family-outcome-spec =
     returns-8
     returns-9
     returns-10
-    returns-11)
+    returns-11
+    returns-12)

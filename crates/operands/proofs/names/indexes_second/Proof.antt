@@ -46,8 +46,12 @@ unfolding indexesSecond operandsOf caseOf
 returns-10 c = rw (c .match .keys10)
 
 returns-11 : tie.Need-returns-11
+unfolding indexesSecond operandsOf caseOf
+returns-11 c = rw (c .match .keys11)
+
+returns-12 : tie.Need-returns-12
 unfolding indexesSecond operandsOf
-returns-11 c = ap (λ (o : Operands). hasIndex (o .second)) (other-arm operandsByFamily (operands unused unused) _ (c .match .rest))
+returns-12 c = ap (λ (o : Operands). hasIndex (o .second)) (other-arm operandsByFamily (operands unused unused) _ (c .match .rest))
 
 pub indexes-second-spec : {M : Type 1} → statement M
-indexes-second-spec = tie.close (tie.spec returns returns-2 returns-3 returns-4 returns-5 returns-6 returns-7 returns-8 returns-9 returns-10 returns-11)
+indexes-second-spec = tie.close (tie.spec returns returns-2 returns-3 returns-4 returns-5 returns-6 returns-7 returns-8 returns-9 returns-10 returns-11 returns-12)

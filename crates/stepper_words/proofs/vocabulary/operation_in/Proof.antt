@@ -8,7 +8,7 @@ abbrev Inv-loop : tie.InvT-loop
 Inv-loop mnemonics word any-case at₀ family₀ at family = Unit {0}
 
 abbrev μ-loop : tie.MeasureT-loop
-μ-loop mnemonics word any-case at₀ family₀ at family = 16 - family
+μ-loop mnemonics word any-case at₀ family₀ at family = 17 - family
 
 loop-holds : tie.Need-loop-holds Inv-loop μ-loop
 loop-holds c = search needs

@@ -88,6 +88,12 @@ up-to-requires-11 c κs = search needs
 no-source-requires-5 : tie.Need-no-source-requires-5
 no-source-requires-5 c κs = search needs
 
+up-to-requires-12 : tie.Need-up-to-requires-12
+up-to-requires-12 c κs = search needs
+
+reference-source-requires-2 : tie.Need-reference-source-requires-2
+reference-source-requires-2 c κs = search needs
+
 flow-allowed-requires : tie.Need-flow-allowed-requires
 flow-allowed-requires c κs = search needs
 
@@ -136,7 +142,11 @@ unfolding caseOf operatorsOf formAllowed
 returns-11 c = row-of _ _ _ family.other (c .before .before .before .before .match .keys11) (c .before .before .before .up-to11 .ensures) (c .no-source5 .ensures)
 
 returns-12 : tie.Need-returns-12
-returns-12 c = c .flow-allowed .ensures ∙ flow-rest _ _ _ (c .before .match .rest)
+unfolding caseOf operatorsOf formAllowed
+returns-12 c = row-of _ _ _ family.convert (c .before .before .match .keys12) (c .before .up-to12 .ensures) (c .reference-source2 .ensures)
+
+returns-13 : tie.Need-returns-13
+returns-13 c = c .flow-allowed .ensures ∙ flow-rest _ _ _ (c .before .match .rest)
 
 pub instruction-allowed-spec : {M : Type 1} → statement M
 instruction-allowed-spec =
@@ -166,6 +176,8 @@ instruction-allowed-spec =
     no-source-requires-4
     up-to-requires-11
     no-source-requires-5
+    up-to-requires-12
+    reference-source-requires-2
     flow-allowed-requires
     returns
     returns-2
@@ -178,4 +190,5 @@ instruction-allowed-spec =
     returns-9
     returns-10
     returns-11
-    returns-12)
+    returns-12
+    returns-13)

@@ -1,9 +1,9 @@
--- `stepper_faults::jump::find_in` is safe and ends. Assumes nothing.
+-- `stepper_faults::look::find_in` is safe and ends. Assumes nothing.
 use Prim.Native.Nat.{_-_}
 use lib.ListN.{length}
 use borrow.Author.Needs.{needs}
-use Rattle.stepper_faults.proofs.jump.find_in.Statement.{statement}
-use Rattle.stepper_faults.proofs.jump.find_in.Tie as tie
+use Rattle.stepper_faults.proofs.look.find_in.Statement.{statement}
+use Rattle.stepper_faults.proofs.look.find_in.Tie as tie
 
 abbrev Inv-loop : tie.InvT-loop
 Inv-loop look regions instructions at₀ at = Unit {0}
