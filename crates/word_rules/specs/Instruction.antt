@@ -20,7 +20,7 @@ upTo last = last + 1
 abbrev pub unused : ℕ
 unused = 0
 
--- "Families, operators numbered from 0 in the Rust's order": how many each family has, by its last
+-- "Families, operators numbered from 0 in the Rust's order": how many each family has, by its last; 02, P5: family 16 has none
 abbrev pub operatorsByFamily : List (ℕ × ℕ)
 operatorsByFamily =
     (family.arithmetic, upTo operator.multiply)
@@ -57,7 +57,7 @@ unfolding caseOf flowOperatorsOf
 operatorsOf family = caseOf family operatorsByFamily (flowOperatorsOf family)
 
 -- "source form (0 integer literal, 1 real literal, 2 reference, 3 none: always and only in families 3, 5, 8, 9, 10)";
--- "2 binary logic (no real literal)"; "6 load (.. source = offset reference)"
+-- "2 binary logic (no real literal)"; "6 load (.. source = offset reference)"; 02, P5: "its source a reference"
 abbrev pub formsByFamily : ℕ → List (ℕ × Bool)
 formsByFamily form =
     let any = ltb form source.none in
@@ -97,6 +97,7 @@ sourceAllowed x = caseOf (x .«source_form») (sourceByForm x) false
 
 -- the first and the second name and index. "A region operand has index 0" (load's second, store's first).
 -- "8 frame: .. words 3 and 4 (counting from 1) are first node and node count, exactly one tree"; "9 call: words 3 to 5 are extern name, first argument, count"
+-- 02, P5: "its first name and index the destination"
 abbrev pub operandWordsByFamily : List ℕ → ℕ → Instruction → List (ℕ × Bool)
 operandWordsByFamily nodes arguments x =
     let second-unused = eqb (x .«second_name») 0 && eqb (x .«second_index») 0 in
