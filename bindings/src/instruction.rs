@@ -135,7 +135,8 @@ pub enum Instruction {
 /// The last operand of an instruction.
 #[derive(Clone, Copy, Debug, PartialEq)]
 pub enum Source {
-    /// An INTEGER as it is written.
+    /// An INTEGER as it is written. MOVE and STORE take into a BIT 0 and 1, into an OCTET 0 to 255: any other there
+    /// is accepted by open, and its step is refused with 24.
     IntegerLiteral(i64),
     /// A REAL as it is written.
     RealLiteral(f64),

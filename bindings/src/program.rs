@@ -9,7 +9,7 @@ use std::vec::Vec;
 ///
 /// let mut program = Program::new();
 /// program.region(Region { name: 1, kind: Kind::Octet, length: 1 });
-/// program.instruction(Instruction::Move { destination: MemoryReference { name: 1, index: 0 }, source: 300.into() });
+/// program.instruction(Instruction::Move { destination: MemoryReference { name: 1, index: 0 }, source: 200.into() });
 /// assert_eq!(check(&program.tables()), Ok(()));
 /// ```
 #[derive(Clone, Debug, Default, PartialEq, Eq)]

@@ -72,6 +72,7 @@ refusals! {
     21 ConditionNotBit "the condition of a jump is not declared, or not BIT",
     22 UnfitConversion "a CONVERT is not between INTEGER and REAL, or one of its names is not declared",
     23 OutsideInteger "a REAL to convert is a NaN, an infinity, or outside -2^63 to 2^63-1 after its fraction is dropped",
+    24 UnfitLiteral "an integer literal is outside its target's kind: 0 to 1 for a BIT, 0 to 255 for an OCTET",
 }
 
 /// Who can mend what was turned down.
@@ -104,7 +105,7 @@ impl Refusal {
             14..=16 => Mender::RunningProgram,
             17 => Mender::ExternRoutine,
             18..=19 => Mender::ForeignWriter,
-            20..=22 => Mender::Author,
+            20..=22 | 24 => Mender::Author,
             23 => Mender::RunningProgram,
             _ => Mender::Unknown,
         }
@@ -159,7 +160,7 @@ mod tests {
     /// Causes and menders in the words of the page of refusals.
     #[test]
     fn words_of_the_page() {
-        for number in 1..=23 {
+        for number in 1..=24 {
             let refusal = Refusal::with_error(number, [0; 6]);
             let (cause, mender) = (refusal.cause(), refusal.mender());
             let lines = format!("## {number}\n\n- Cause: {cause}.\n- Mended by: {mender}.\n");

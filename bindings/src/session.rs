@@ -79,7 +79,7 @@ impl<'a> Session<'a> {
 
     /// One step: the row at the position, with the rows of the extern routine's reply where it is a CALL, else none.
     /// A refusal changes nothing. After an accepted open these are left of its refusals, in order: 11; a CALL 14, 17,
-    /// 13; else 17, 14, 15, 16, 23, 13.
+    /// 13; else 17, 14, 24, 15, 16, 23, 13.
     pub fn forward(&mut self, reply: &[[u64; sizes::REPLY_WIDTH]]) -> Result<Position, Refusal> {
         let mut position = self.position.words();
         match raw::forward(&self.tables, self.memory, self.journal, &mut position, raw::flattened(reply)) {

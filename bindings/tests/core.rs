@@ -107,6 +107,7 @@ fn numbers_of_refusals() {
         ConditionNotBit,
         UnfitConversion,
         OutsideInteger,
+        UnfitLiteral,
     ];
     // A cause of more than a line is strings one after another in C.
     let header: String = HEADER.split('"').filter(|part| !part.trim().is_empty() || !part.contains('\n')).collect();

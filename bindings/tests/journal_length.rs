@@ -35,7 +35,7 @@ fn families() -> [(Row, usize); 12] {
         (mov(at(R, 0), 1.5), 2),
         (Instruction::Exchange { left: n, right: n }.row(), 3),
         (Instruction::Load { destination: n, source: N, offset: at(N, 1) }.row(), 2),
-        (Instruction::Store { destination: N, offset: at(N, 1), source: 7.into() }.row(), 2),
+        (store(N, at(N, 1), 7), 2),
         (Instruction::Frame { operator: FrameOperator::SetPhase, first_node: 0, node_count: 1 }.row(), 1),
         (call(F, 0, 1), 65),
         (Instruction::Nop.row(), 1),

@@ -2,7 +2,7 @@
 mod bench;
 
 use bench::*;
-use mugwortlatch::{ArithmeticOperator, ComparisonOperator, Instruction, Ran, Refusal, Session, Stop};
+use mugwortlatch::{ArithmeticOperator, ComparisonOperator, Instruction, Ran, Refusal, Stop};
 
 const L: u64 = 50;
 
@@ -20,12 +20,11 @@ fn countdown(from: i64) -> [Row; 5] {
 
 /// The run's answer; so many forwards in a session of its own leave the same.
 fn ran(rows: &[Row], entries: usize, allowance: u64) -> (u64, Stop) {
-    let left = |session: &Session| (session.memory().to_vec(), session.journal().to_vec(), session.position());
     let (Ran { steps: count, stop, position, .. }, after) =
-        session(bench(rows), entries, |session| (session.run(allowance).unwrap(), left(session))).unwrap();
+        session(bench(rows), entries, |session| (session.run(allowance).unwrap(), held(session))).unwrap();
     let forwards = session(bench(rows), entries, |session| {
         steps(session, count as usize);
-        left(session)
+        held(session)
     });
     assert_eq!((forwards, position), (Ok(after.clone()), after.2));
     (count, stop)

@@ -144,7 +144,9 @@ enum {
     CONSOLE_OPERATOR_ANY_OTHER = 1 /* any instruction that the console does not step */
 };
 
-/* Forms of an instruction's source, with their two words. */
+/* Forms of an instruction's source, with their two words. A MOVE or STORE of an integer literal
+ * outside a BIT's 0 to 1 or an OCTET's 0 to 255 passes check and open, and its step is 24; AND, IOR
+ * and XOR take the literal's low bits. */
 enum {
     CONSOLE_SOURCE_INTEGER_LITERAL = 0, /* the literal, 0 */
     CONSOLE_SOURCE_REAL_LITERAL = 1,    /* its bits, 0 */
@@ -278,7 +280,10 @@ enum {
     CONSOLE_REFUSAL_UNFIT_CONVERSION = 22,
 
     /* the running program */
-    CONSOLE_REFUSAL_OUTSIDE_INTEGER = 23
+    CONSOLE_REFUSAL_OUTSIDE_INTEGER = 23,
+
+    /* the program's author */
+    CONSOLE_REFUSAL_UNFIT_LITERAL = 24
 };
 
 /* The cause of an answer in words, a string that is not to be freed. A number that no call returns
@@ -338,6 +343,9 @@ static inline const char *console_cause(uint64_t number)
     case CONSOLE_REFUSAL_OUTSIDE_INTEGER:
         return "a REAL to convert is a NaN, an infinity, or outside -2^63 to 2^63-1 after its "
                "fraction is dropped";
+    case CONSOLE_REFUSAL_UNFIT_LITERAL:
+        return "an integer literal is outside its target's kind: 0 to 1 for a BIT, 0 to 255 for "
+               "an OCTET";
     default:
         return "no answer of this library";
     }
@@ -402,11 +410,11 @@ uint64_t console_open(CONSOLE_TABLES, uint64_t *memory, size_t memory_length,
                       uint64_t error[CONSOLE_TYPE_ERROR_WIDTH]);
 
 /* One step forward, the row at position: 1, 2, 3, 10, 4, 19, 11, 9, 20, then for a CALL 6, 7, 8,
- * 14, 17, 13, else 17, 18, 14, 18, 14, 18, 15, 16, 23, 13. memory takes 2 words a cell, a journal
- * entry 3 words. position on 0 is the new one: its row is the next, a taken jump's LABEL row, or
- * after HALT the number of rows. reply is at most 64 rows of 4 words where the row is a CALL, else
- * empty: argument, offset, kind, word. On any other answer memory and journal keep what they held.
- */
+ * 14, 17, 13, else 17, 18, 14, 18, 14, 18, 24, 15, 16, 23, 13. memory takes 2 words a cell, a
+ * journal entry 3 words. position on 0 is the new one: its row is the next, a taken jump's LABEL
+ * row, or after HALT the number of rows. reply is at most 64 rows of 4 words where the row is a
+ * CALL, else empty: argument, offset, kind, word. On any other answer memory and journal keep what
+ * they held. */
 uint64_t console_forward(CONSOLE_TABLES, uint64_t *memory, size_t memory_length, uint64_t *journal,
                          size_t journal_length, uint64_t position[CONSOLE_POSITION],
                          const uint64_t *reply, size_t reply_length);

@@ -1,8 +1,8 @@
 //! The bench's declarations and rows, for the tests: a BIT[2], n INTEGER[3], o OCTET[1], r REAL[2].
 #![allow(dead_code)]
 use mugwortlatch::{
-    flattened, sizes, ArithmeticOperator, BinaryOperator, Instruction, Kind, MemoryReference, Refusal, Region, Session,
-    Source, Tables,
+    flattened, sizes, ArithmeticOperator, BinaryOperator, Instruction, Kind, MemoryReference, Position, Refusal,
+    Region, Session, Source, Tables,
 };
 
 pub const A: u64 = 0;
@@ -40,6 +40,10 @@ pub fn logic(operator: BinaryOperator, destination: MemoryReference, source: imp
 
 pub fn mov(destination: MemoryReference, source: impl Into<Source>) -> Row {
     Instruction::Move { destination, source: source.into() }.row()
+}
+
+pub fn store(destination: u64, offset: MemoryReference, source: impl Into<Source>) -> Row {
+    Instruction::Store { destination, offset, source: source.into() }.row()
 }
 
 pub fn call(name: u64, first_argument: u64, argument_count: u64) -> Row {
@@ -82,6 +86,21 @@ pub fn session<T>(tables: Tables, entries: usize, run: impl FnOnce(&mut Session)
 /// So many forwards, none refused.
 pub fn steps(session: &mut Session, count: usize) {
     (0..count).for_each(|_| assert!(session.forward(&[]).is_ok()));
+}
+
+/// Memory, journal and position.
+pub fn held(session: &Session) -> (Vec<u64>, Vec<u64>, Position) {
+    (session.memory().to_vec(), session.journal().to_vec(), session.position())
+}
+
+/// The answer of a forward; a refused one leaves everything as it was.
+pub fn tried(session: &mut Session, reply: &[[u64; sizes::REPLY_WIDTH]]) -> Result<Position, Refusal> {
+    let before = held(session);
+    let answer = session.forward(reply);
+    if answer.is_err() {
+        assert_eq!(before, held(session));
+    }
+    answer
 }
 
 pub fn word(session: &Session, reference: MemoryReference) -> u64 {

@@ -18,7 +18,7 @@ fn width(kind: u64) -> u32 {
 }
 
 /// The low bits that a kind keeps.
-pub fn low_bits(kind: u64, word: u64) -> u64 {
+fn low_bits(kind: u64, word: u64) -> u64 {
     word & (u64::MAX >> (64 - width(kind)))
 }
 

@@ -5,9 +5,9 @@ use crate::{
     labels::{label_row, labels_fit},
     layout::{cell, lookup, word_fits, Cell, Region},
     loader::need,
-    operators::{arithmetic, compare, complement, logic, low_bits, negated, value},
+    operators::{arithmetic, compare, complement, logic, negated, value},
     rows::{instruction, names, written, Arithmetic, Comparison, Instruction, Logic, Reference, Source, Unary},
-    BIT, INTEGER, REAL,
+    BIT, INTEGER, OCTET, REAL,
 };
 use tables::Tables;
 
@@ -170,7 +170,10 @@ impl Machine<'_> {
         let kind = cell(self.cells, target).kind;
         match source {
             Source::Reference(reference) => self.read(reference),
-            Source::Integer(word) if kind < REAL => Ok(Cell { kind, word: low_bits(kind, word) }),
+            Source::Integer(word) if kind < REAL => {
+                need(literal_in_range(kind, word as i64), 24)?;
+                Ok(Cell { kind, word })
+            }
             Source::Real(word) if kind == REAL => Ok(Cell { kind, word }),
             _ => Err(18),
         }
@@ -194,4 +197,13 @@ impl Machine<'_> {
 fn good(read: Cell) -> Result<Cell, u64> {
     need(read.kind <= REAL && word_fits(read.kind, read.word), 18)?;
     Ok(read)
+}
+
+/// No "literal outside 0 to 1 for BIT or 0 to 255 for OCTET".
+fn literal_in_range(kind: u64, literal: i64) -> bool {
+    match kind {
+        BIT => (0..=1).contains(&literal),
+        OCTET => (0..=255).contains(&literal),
+        _ => true,
+    }
 }

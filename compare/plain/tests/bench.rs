@@ -1,4 +1,5 @@
-//! 01's ten bench lines, the third as 02 has it, on the plain machine: a BIT[2], n INTEGER[3], o OCTET[1], r REAL[2].
+//! 01's ten bench lines, the third and the fourth as 02 has them, on the plain machine: a BIT[2], n INTEGER[3],
+//! o OCTET[1], r REAL[2].
 mod machine;
 
 use machine::*;
@@ -33,8 +34,8 @@ fn store_of_an_undeclared_source() {
 
 #[test]
 fn move_300_into_an_octet() {
-    let (number, bench) = last(&[move_literal(O, 300)]);
-    assert_eq!((number, bench.cell(O_WORD)), (0, [2, 44]));
+    let row = move_literal(O, 300);
+    assert_eq!(last(&[row]), (24, opened(&[row])));
 }
 
 #[test]

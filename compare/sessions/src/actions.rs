@@ -150,7 +150,7 @@ fn actions(random: &mut Random, list: &List, course: &Course) -> Vec<Action> {
         let answer = side.act(&tables, &action);
         actions.push(action);
         // Pressed again, a row would mostly meet the same.
-        if course.pressed && matches!(answer, Some(14..=16 | 23)) {
+        if course.pressed && matches!(answer, Some(14..=16 | 23 | 24)) {
             break;
         }
     }

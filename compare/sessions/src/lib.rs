@@ -1,14 +1,16 @@
-//! Call lists, of every CONVERT row and then by chance, through frame, journal_length, open, forward, back and run,
-//! against the plain machine on the same lent words and 02's claims about a frame's count, a step's entries and runs, and
-//! against demand 3's machine and 02's claim about the journal where only our calls wrote.
+//! Call lists, of every CONVERT row and every MOVE and STORE row of an integer literal at an edge and then by chance,
+//! through frame, journal_length, open, forward, back and run, against the plain machine on the same lent words and
+//! 02's claims about a frame's count, a step's entries and runs, and against demand 3's machine and 02's claim about
+//! the journal where only our calls wrote.
 mod actions;
 mod claims;
-mod conversions;
 mod damage;
+mod exhaustive;
 mod externs;
 mod flow;
 mod journals;
 mod list;
+mod literals;
 mod player;
 mod programs;
 mod replies;
@@ -34,17 +36,20 @@ const SHOWN: u64 = 3;
 /// 2 on bad usage.
 pub fn main(library: Box<dyn Session>) {
     let options = USAGE.options();
-    let every = conversions::lists();
-    let rows = played(&*library, every.len() as u64, every, options.first);
-    println!("every CONVERT row: {}\n", rows.counts());
-    if options.first && rows.differ > 0 {
-        std::process::exit(1)
+    let mut differ = 0;
+    for (rows, lists) in exhaustive::sets() {
+        let report = played(&*library, lists.len() as u64, lists, options.first);
+        println!("every {rows}: {}\n", report.counts());
+        differ += report.differ;
+        if options.first && differ > 0 {
+            std::process::exit(1)
+        }
     }
     let (start, mut random) = (Instant::now(), Random::new(options.seed));
     let by_chance = (0..options.count).map(|_| actions::list(&mut random));
     let report = played(&*library, options.count, by_chance, options.first);
     report.print(start.elapsed().as_secs_f64());
-    let agreed = rows.differ + report.differ == 0 && report.missing().is_empty();
+    let agreed = differ + report.differ == 0 && report.missing().is_empty();
     std::process::exit(if agreed { 0 } else { 1 })
 }
 

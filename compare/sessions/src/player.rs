@@ -20,6 +20,7 @@ pub struct Call<'a> {
     /// The positions before and after.
     pub from: [u64; 3],
     pub to: [u64; 3],
+    pub tables: &'a Tables,
     /// The row that frame was asked about, or that the position named before another call, if there is one.
     pub row: Option<&'a [u64]>,
     /// Demand 3's machine stands beside.
@@ -121,6 +122,7 @@ impl<'a> Both<'a> {
             ran,
             from,
             to: position,
+            tables: &self.tables,
             row: row(&self.tables, action.frame_row().unwrap_or(from[0])),
             replayed: self.replay.is_some(),
             spare,

@@ -2,6 +2,7 @@
 use crate::{
     journals::Journals,
     list::{Action, List},
+    literals::Literals,
     player::Call,
     runs::Runs,
 };
@@ -15,13 +16,13 @@ const REFUSALS: [&[u64]; 6] = [
     &[1, 2, 3, 5],
     &[1, 2, 3, 10, 5, 9, 20, 21, 22, 6, 7, 8],
     &[1, 2, 3, 10, 4, 5, 9, 20, 21, 22, 6, 7, 8],
-    &[1, 2, 3, 10, 4, 19, 11, 9, 20, 6, 7, 8, 14, 17, 13, 18, 15, 16, 23],
+    &[1, 2, 3, 10, 4, 19, 11, 9, 20, 6, 7, 8, 14, 17, 13, 18, 24, 15, 16, 23],
     &[1, 2, 3, 10, 4, 19, 12],
     &[1, 2, 3, 10, 4, 19],
 ];
 
 /// The last number of a refusal.
-const LAST: u64 = 23;
+const LAST: u64 = 24;
 
 const FAMILIES: [&str; 17] = [
     "arithmetic",
@@ -44,7 +45,7 @@ const FAMILIES: [&str; 17] = [
 ];
 
 /// Refusals that depend on the row, and 20.
-const SHOWN_BY_FAMILY: [u64; 12] = [9, 20, 6, 7, 8, 17, 18, 14, 15, 16, 23, 13];
+const SHOWN_BY_FAMILY: [u64; 13] = [9, 20, 6, 7, 8, 17, 18, 14, 24, 15, 16, 23, 13];
 
 #[derive(Default)]
 pub struct Report {
@@ -63,6 +64,7 @@ pub struct Report {
     early: u64,
     late: u64,
     runs: Runs,
+    literals: Literals,
 }
 
 /// A call by its place among them.
@@ -86,6 +88,7 @@ impl Report {
         };
         self.journals.seen(call);
         self.runs.seen(call);
+        self.literals.seen(call);
         *self.answers.entry((of, call.number)).or_default() += 1;
         // Frame and journal_length are none of that machine's calls.
         if call.replayed && !matches!(call.action, Action::Frame(_) | Action::JournalLength) {
@@ -119,6 +122,7 @@ impl Report {
         let unstepped = (0..).zip(FAMILIES).filter(|&(family, _)| !stepped(family));
         missing.extend(unstepped.map(|(_, name)| format!("forward over {name}")));
         missing.extend(self.runs.missing());
+        missing.extend(self.literals.missing());
         if self.early == 0 || self.late == 0 {
             missing.push("frames that fail before their last node, and at it".to_string());
         }
@@ -150,7 +154,7 @@ impl Report {
         );
         println!("frames that fail before their last node: {}, at it: {}", self.early, self.late);
         println!("{}; sums above {ENTRIES}: {}", self.journals.text(), self.above);
-        println!("{}", self.runs.text());
+        println!("{}\n{}", self.runs.text(), self.literals.text());
         let missing = self.missing();
         println!("not reached: {}", if missing.is_empty() { "none".to_string() } else { missing.join(", ") });
         println!("differ {}", self.differ);

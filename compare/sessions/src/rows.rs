@@ -1,5 +1,5 @@
 //! One more instruction row: of operands by their kinds.
-use crate::programs::Builder;
+use crate::{programs::Builder, values};
 
 pub const NOP: [u64; 9] = [10, 0, 0, 0, 0, 0, 3, 0, 0];
 
@@ -42,7 +42,7 @@ impl Builder<'_> {
         Some(([name, self.index(length)], kind))
     }
 
-    /// A source's form and two words: a literal that fits the kind, or a cell of one of these kinds.
+    /// A source's form and two words: a literal that the type check takes for the kind, or a cell of one of these kinds.
     fn source(&mut self, kind: u64, kinds: &[u64]) -> Option<[u64; 3]> {
         if self.random.chance(50) {
             let ([name, index], _) = self.cell(kinds)?;
@@ -53,6 +53,14 @@ impl Builder<'_> {
             false => self.random.below(2),
         };
         Some([form, self.literal(form), 0])
+    }
+
+    /// What MOVE and STORE put into a cell of that kind.
+    fn copied(&mut self, kind: u64) -> Option<[u64; 3]> {
+        match self.source(kind, &[kind])? {
+            [0, ..] => Some([0, values::literal(self.random, kind), 0]),
+            source => Some(source),
+        }
     }
 
     fn arithmetic(&mut self) -> Option<[u64; 9]> {
@@ -87,7 +95,7 @@ impl Builder<'_> {
 
     fn move_(&mut self) -> Option<[u64; 9]> {
         let ([name, index], kind) = self.cell(&ANY)?;
-        let [form, a, b] = self.source(kind, &[kind])?;
+        let [form, a, b] = self.copied(kind)?;
         Some([4, 0, name, index, 0, 0, form, a, b])
     }
 
@@ -107,7 +115,7 @@ impl Builder<'_> {
     fn store(&mut self) -> Option<[u64; 9]> {
         let [name, kind, _] = self.region(&ANY)?;
         let ([offset, place], _) = self.cell(&[1])?;
-        let [form, a, b] = self.source(kind, &[kind])?;
+        let [form, a, b] = self.copied(kind)?;
         Some([7, 0, name, 0, offset, place, form, a, b])
     }
 

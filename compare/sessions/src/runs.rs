@@ -3,7 +3,7 @@ use crate::{list::Action, player::Call};
 use std::collections::BTreeMap;
 
 /// Each stop, and the refusals that can be one: forward's, of rows that are no CALL with an empty reply.
-const STOPS: [([u64; 2], &str); 11] = [
+const STOPS: [([u64; 2], &str); 12] = [
     ([0, 0], "allowance"),
     ([1, 0], "end"),
     ([2, 0], "before a CALL"),
@@ -11,6 +11,7 @@ const STOPS: [([u64; 2], &str); 11] = [
     ([3, 20], "refusal 20"),
     ([3, 18], "refusal 18"),
     ([3, 14], "refusal 14"),
+    ([3, 24], "refusal 24"),
     ([3, 15], "refusal 15"),
     ([3, 16], "refusal 16"),
     ([3, 23], "refusal 23"),

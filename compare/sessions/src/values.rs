@@ -4,6 +4,9 @@ use tables::random_numbers::Random;
 
 const INTEGERS: [i64; 14] = [i64::MIN, i64::MIN + 1, -256, -7, -2, -1, 2, 7, 8, 63, 64, 255, 256, i64::MAX];
 
+/// On either side of what a BIT and an OCTET hold, and far from it with low bits that they hold.
+const LITERALS: [i64; 14] = [i64::MIN, i64::MIN + 1, -256, -255, -1, 0, 1, 2, 255, 256, 257, 300, 1 << 32, i64::MAX];
+
 const REALS: [u64; 24] = [
     0,
     1 << 63,               // -0
@@ -65,6 +68,15 @@ pub fn fitting(random: &mut Random, kind: u64) -> u64 {
         OCTET => random.below(256),
         INTEGER => integer(random),
         _ => real(random),
+    }
+}
+
+/// An integer literal for a cell of that kind, mostly one that fits.
+pub fn literal(random: &mut Random, kind: u64) -> u64 {
+    match kind {
+        BIT | OCTET if random.chance(85) => fitting(random, kind),
+        BIT | OCTET => random.pick(&LITERALS) as u64,
+        _ => integer(random),
     }
 }
 

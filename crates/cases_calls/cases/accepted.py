@@ -84,13 +84,13 @@ def unary(bench):
 
 
 def move(bench):
-    for literal in (300, -1, 0, 255):
-        for target in ('a[0]', 'o[0]', 'n[0]'):
-            bench.step(0, f'MOVE {target} {literal}')
+    for literal, targets in ((300, 'n'), (-1, 'n'), (0, 'aon'), (1, 'a'), (255, 'on')):
+        for target in targets:
+            bench.step(0, f'MOVE {target}[0] {literal}')
     for literal in ('1.5', '-0.0', '0fFFF0000000000001'):
         bench.step(0, f'MOVE r[0] {literal}', 'r0=2.0')
-    for cells in ('o0=BIT:7', 'o0=999', 'o0=INTEGER:1'):
-        bench.step(0, 'MOVE o[0] 300', cells)
+    for literal, cells in ((1, 'o0=BIT:7'), (255, 'o0=999'), (300, 'o0=INTEGER:1')):
+        bench.step(0, f'MOVE o[0] {literal}', cells)
     bench.step(0, 'MOVE n[0] 1.5', 'n0=REAL:0.0')
     for source, cells in (('n[1]', 'n1=-5'), ('o[1]', 'o1=255'), ('a[0]', 'a0=1'), ('r[0]', 'r0=0fFFF0000000000001')):
         bench.step(0, f'MOVE {source[0]}[1] {source}', cells)
@@ -110,7 +110,7 @@ def load_and_store(bench):
         bench.step(0, 'LOAD r[0] r n[0]', f'n0={offset} r0=0.5 r1=1.5')
         bench.step(0, 'STORE r n[0] r[1]', f'n0={offset} r0=0.5 r1=1.5')
         bench.step(0, 'STORE r n[0] 0fFFF0000000000001', f'n0={offset}')
-        bench.step(0, 'STORE o n[2] -2', f'n2={offset}')
+        bench.step(0, 'STORE o n[2] 254', f'n2={offset}')
     bench.step(0, 'LOAD n[1] n n[1]', 'n1=2 n2=77')
     bench.step(0, 'STORE n n[1] n[1]', 'n1=1')
     bench.step(0, 'STORE n n[1] n[0]', 'n0=8 n1=1')
@@ -118,8 +118,8 @@ def load_and_store(bench):
         bench.step(0, 'LOAD n[1] n n[0]', cells)
     for cells in ('n0=2 n1=OCTET:9', 'n0=2 n1=7 n2=9:9', 'n0=2 n2=BIT:2 n1=REAL:inf'):
         bench.step(0, 'STORE n n[0] n[1]', cells)
-    for cells in ('n0=1 o1=BIT:9', 'n0=1 o1=256', 'n0=1 o1=INTEGER:0'):
-        bench.step(0, 'STORE o n[0] 300', cells)
+    for literal, cells in ((1, 'n0=1 o1=BIT:9'), (255, 'n0=1 o1=256'), (300, 'n0=1 o1=INTEGER:0')):
+        bench.step(0, f'STORE o n[0] {literal}', cells)
     bench.step(0, 'STORE a n[0] 2.5', 'a0=REAL:0.0')
     bench.step(0, 'LOAD o[0] o n[0]', 'n0=1 o1=8')
 

@@ -23,7 +23,7 @@ def there_and_back(bench, what, tables, cells='', reply=(), entries=6):
 
 def restored(bench):
     for row, cells in (('NOP', 'n0=9:9'), ('NEG n[0]', 'n0=5'), ('MOVE n[0] n[1]', 'n0=77:99 n1=OCTET:3'), ('EQ a[0] n[0] 0', 'a0=REAL:1.5'),
-                       ('EXCHANGE n[0] n[1]', 'n0=3 n1=BIT:1'), ('EXCHANGE n[0] n[0]', 'n0=3'), ('STORE n n[0] 5', 'n0=2 n2=BIT:9'),
+                       ('EXCHANGE n[0] n[1]', 'n0=3 n1=BIT:1'), ('EXCHANGE n[0] n[0]', 'n0=3'), ('STORE n n[0] 1', 'n0=2 n2=BIT:9'),
                        ('CONVERT r[0] n[0]', 'n0=7 r0=77:99'), ('CONVERT n[0] r[0]', 'n0=BIT:9 r0=-2.5'), ('CONVERT n[0] n[0]', 'n0=7')):
         there_and_back(bench, row, {'instructions': quil.row(row)}, cells)
     call = call_tables(F)
@@ -129,7 +129,7 @@ def tables(bench):
     taken_back(bench, 4, 'journal and position', good + [0], row=9)
     taken_back(bench, 0, 'OTHER and type errors are not looked at', good, instructions=quil.program('OTHER', 'ADD q[0] 1'))
     taken_back(bench, 0, 'a CALL of no extern is not looked at', good, instructions=quil.program('CALL q 0 0'))
-    for rows in (('JUMP @1', 'NOP'), ('LABEL @1', 'LABEL @1'), ('LABEL @1', 'JUMP-WHEN @1 q[0]'), ('CONVERT n[0] q[0]',)):
+    for rows in (('JUMP @1', 'NOP'), ('LABEL @1', 'LABEL @1'), ('LABEL @1', 'JUMP-WHEN @1 q[0]'), ('CONVERT n[0] q[0]',), ('MOVE o[0] 300',)):
         taken_back(bench, 0, ', '.join(rows) + ' are not looked at', good, instructions=quil.program(*rows))
 
 

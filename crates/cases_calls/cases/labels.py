@@ -141,7 +141,7 @@ def orders_of_forward(bench):
     stepped(bench, 20, F, 'JUMP @1', entries=0)
     for row, cells in (('ADD q[0] 1', ''), ('ADD n[3] 1', ''), ('ADD n[0] 1', 'n0=4:0'), ('LOAD n[0] n n[1]', 'n1=3'), ('LOAD n[0] n n[1]', 'n1=2 n2=4:0'),
                        ('DIV n[0] 0', ''), ('SHL n[0] -1', ''), ('JUMP-WHEN @1 q[0]', ''), ('JUMP-UNLESS @1 a[2]', ''), ('JUMP-WHEN @1 a[0]', 'a0=2'),
-                       ('CONVERT n[0] r[0]', 'r0=nan')):
+                       ('CONVERT n[0] r[0]', 'r0=nan'), ('MOVE o[0] 300', ''), ('STORE a n[0] 2', '')):
         stepped(bench, 20, row, 'LABEL @2', 'LABEL @2', cells=cells)
     for row in ('NOP', 'JUMP @1', 'LABEL @1', 'HALT'):
         stepped(bench, 20, row, 'JUMP @2', reply=REPLY)

@@ -1,4 +1,4 @@
-"""Document 01's bench examples, with the results that it states, the STORE's as 02 has it: they hold the model to the papers."""
+"""Document 01's bench examples, with the results that it states, the STORE's and the MOVE's as 02 has them: they hold the model to the papers."""
 from rules.words import WORD
 
 from . import quil
@@ -11,6 +11,12 @@ def leaves(bench, row, cells, cell, word, entries_used=2):
     bench.step(0, row, cells)
     assert bench.script.memory[2 * quil.cell_of(cell) + 1] == word % WORD, row
     assert bench.script.position == (1, 1, entries_used), row
+
+
+def unwritten(bench, number, row, cells=''):
+    """The row turned down: no word of memory or journal changes, and the position is as it was."""
+    bench.step(number, row, cells)
+    assert bench.script.answers[-1] == f'forward {number} | 0 0 0 | |', row
 
 
 def type_error(bench, row, kind, spot=1):
@@ -30,7 +36,7 @@ def checked(bench):
 
 
 def stepped(bench):
-    leaves(bench, 'MOVE o[0] 300', '', 'o0', 44)
+    unwritten(bench, 24, 'MOVE o[0] 300')
     leaves(bench, 'DIV n[0] 2', 'n0=-7', 'n0', -3)
     leaves(bench, 'ASHR o[0] 1', 'o0=128', 'o0', 192)
     leaves(bench, 'SHL o[0] 8', 'o0=128', 'o0', 0)

@@ -36,7 +36,7 @@ class Draw:
 
 
 def programs():
-    plain = ('MOVE n[0] 5', 'MOVE o[0] 300', 'ADD n[0] n[1]', 'EXCHANGE n[0] n[2]', 'NOT o[0]', 'GT a[0] n[0] 2', 'NOP', 'MOVE n[1] 1',
+    plain = ('MOVE n[0] 5', 'MOVE o[0] 44', 'ADD n[0] n[1]', 'EXCHANGE n[0] n[2]', 'NOT o[0]', 'GT a[0] n[0] 2', 'NOP', 'MOVE n[1] 1',
              'STORE n n[1] 9')
     divides = ('MOVE n[1] 0', 'DIV n[0] n[1]', 'MOVE n[1] 2')
     shifts = ('MOVE n[0] -1', 'SHL o[0] n[0]', 'NEG n[0]')
@@ -119,18 +119,23 @@ def misplaced(draw, script):
     script.place(*kept)
 
 
+def drawn(bench, draw, what, entries, tables):
+    """A list over the program, on zero cells where open turns it down."""
+    script = bench.script
+    script.heading(f'{what}, {entries} entries')
+    bench.tables(**tables)
+    script.lend_memory(marked([], 20))
+    script.lend_journal(marked([], 3 * entries))
+    if script.open() != 0:
+        script.lend_memory(marked(quil.cells(), 20))
+    for _ in range(SHORTEST + draw.below(LONGEST - SHORTEST + 1)):
+        play(draw, script)
+
+
 def write(script):
     bench = Bench(script)
     draw = Draw(2026)
     listed = list(programs())
     for number in range(LISTS):
         what, tables = listed[number % len(listed)]
-        entries = draw.of(ENTRY_COUNTS)
-        script.heading(f'list {number}: {what}, {entries} entries')
-        bench.tables(**tables)
-        script.lend_memory(marked([], 20))
-        script.lend_journal(marked([], 3 * entries))
-        if script.open() != 0:
-            script.lend_memory(marked(quil.cells(), 20))
-        for _ in range(SHORTEST + draw.below(LONGEST - SHORTEST + 1)):
-            play(draw, script)
+        drawn(bench, draw, f'list {number}: {what}', draw.of(ENTRY_COUNTS), tables)

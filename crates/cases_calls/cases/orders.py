@@ -70,9 +70,27 @@ def rows(bench):
     step(17, 'CONVERT n[0] r[0]', 'r0=nan', reply=REPLY)
 
 
+def unfit_literals(bench):
+    """17, 18 names, 14 written indices, 18 row's cells, 14 index from a cell and 18 cell reached come before 24."""
+    for row, offset in (('MOVE o[0] 300', ''), ('STORE a n[0] -1', 'n0=1')):
+        bench.step(17, row, offset, reply=REPLY)
+    for row in ('MOVE q[0] 300', 'STORE q n[0] 300', 'STORE o q[0] 300'):
+        bench.step(18, row)
+    for row in ('MOVE o[2] 300', 'MOVE a[-1] 2', 'STORE o n[3] 300', 'STORE a e[0] -1'):
+        bench.step(14, row)
+    for offset in ('4:1', 'BIT:1', 'OCTET:1', 'REAL:0.0'):
+        bench.step(18, 'STORE o n[0] 300', f'n0={offset}')
+    for offset in (2, -1):
+        bench.step(14, 'STORE o n[0] 300', f'n0={offset}')
+    for held in ('REAL:0.0', '4:0'):
+        bench.step(18, 'MOVE o[0] 300', f'o0={held}')
+        bench.step(18, 'STORE o n[0] 300', f'n0=1 o1={held}')
+
+
 def full_journals(bench):
     for number, row, cells in ((18, 'ADD q[0] 1', ''), (14, 'ADD n[3] 1', ''), (18, 'ADD n[0] 1', 'n0=4:0'), (14, 'LOAD n[0] n n[1]', 'n1=3'),
-                               (18, 'LOAD n[0] n n[1]', 'n1=2 n2=4:0'), (15, 'DIV n[0] 0', ''), (16, 'SHL n[0] -1', ''), (23, 'CONVERT n[0] r[0]', 'r0=nan')):
+                               (18, 'LOAD n[0] n n[1]', 'n1=2 n2=4:0'), (15, 'DIV n[0] 0', ''), (16, 'SHL n[0] -1', ''), (23, 'CONVERT n[0] r[0]', 'r0=nan'),
+                               (24, 'MOVE o[0] 300', ''), (24, 'STORE a n[0] 2', '')):
         bench.step(number, row, cells, entries=1)
         bench.step(number, row, cells, entries=0)
 
@@ -93,5 +111,5 @@ def calls(bench):
 def write(script):
     bench = Bench(script)
     script.heading('two causes at once:')
-    for group in (whole_tables, rows, full_journals, calls):
+    for group in (whole_tables, rows, unfit_literals, full_journals, calls):
         group(bench)

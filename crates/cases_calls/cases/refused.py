@@ -95,6 +95,19 @@ def cell_reached(bench):
         bench.step(18, 'LOAD n[0] o n[1]', f'n1=1 o1={value}')
 
 
+def unfit_literals(bench):
+    """Literals outside a BIT's or an OCTET's numbers, whatever word the target has; more of them in literals.py."""
+    for literal, targets in ((300, 'ao'), (-1, 'ao'), (255, 'a')):
+        for target in targets:
+            bench.step(24, f'MOVE {target}[0] {literal}')
+    for cells in ('o0=BIT:7', 'o0=999'):
+        bench.step(24, 'MOVE o[0] 300', cells)
+    for offset in (0, 1):
+        bench.step(24, 'STORE o n[2] -2', f'n2={offset}')
+    for cells in ('n0=1 o1=BIT:9', 'n0=1 o1=256'):
+        bench.step(24, 'STORE o n[0] 300', cells)
+
+
 def zero_divisors(bench):
     bench.step(15, 'DIV n[0] n[1]', 'n0=5')
     bench.step(15, 'DIV n[0] 0', 'n0=-5')
@@ -123,7 +136,8 @@ def not_integers(bench):
 
 def journal_room(bench):
     """One entry short, and an exact fit."""
-    for row, changes in (('NOP', 0), ('NEG n[0]', 1), ('EXCHANGE n[0] n[1]', 2), ('CONVERT r[0] n[0]', 1), ('CONVERT n[0] r[0]', 1)):
+    for row, changes in (('NOP', 0), ('NEG n[0]', 1), ('MOVE o[0] 255', 1), ('STORE a n[0] 1', 1), ('EXCHANGE n[0] n[1]', 2),
+                         ('CONVERT r[0] n[0]', 1), ('CONVERT n[0] r[0]', 1)):
         for used in (0, 1, 3):
             bench.step(13, row, entries=used + changes, used=used)
             bench.step(0, row, entries=used + changes + 1, used=used)
@@ -213,7 +227,7 @@ def over_limits(bench):
 
 def write(script):
     bench = Bench(script)
-    for group in (names, written_indices, read_cells, literal_targets, index_from_a_cell, cell_reached, zero_divisors, negative_counts, not_integers, journal_room,
-                  replies, other_instruction, positions, buffers, many_cells, loader):
+    for group in (names, written_indices, read_cells, literal_targets, index_from_a_cell, cell_reached, unfit_literals, zero_divisors, negative_counts,
+                  not_integers, journal_room, replies, other_instruction, positions, buffers, many_cells, loader):
         script.heading(group.__name__.replace('_', ' ') + ':')
         group(bench)

@@ -115,9 +115,10 @@ def refusals(bench):
     for number, row, cells in (
             (9, 'OTHER', ''), (18, 'ADD q[0] 1', ''), (14, 'ADD n[3] 1', ''), (18, 'ADD n[1] 1', 'n1=4:0'), (14, 'LOAD n[0] n n[1]', 'n1=3'),
             (18, 'LOAD n[0] n n[1]', 'n1=2 n2=4:0'), (15, 'DIV n[1] 0', ''), (16, 'SHL n[1] -1', ''), (18, 'JUMP-WHEN @1 q[0]', ''), (14, 'JUMP-WHEN @1 a[2]', ''),
-            (18, 'JUMP-UNLESS @1 a[0]', 'a0=2'), (23, 'CONVERT n[1] r[0]', 'r0=nan')):
+            (18, 'JUMP-UNLESS @1 a[0]', 'a0=2'), (23, 'CONVERT n[1] r[0]', 'r0=nan'), (24, 'MOVE o[0] 300', ''), (24, 'STORE a n[1] 2', '')):
         stopped(bench, number, 2, 'LABEL @1', 'NEG n[0]', row, 'NOP', cells=cells)
     stopped(bench, 18, 0, 'NEG q[0]')
+    stopped(bench, 24, 0, 'MOVE a[0] -1')
     stopped(bench, 9, 0, 'OTHER')
 
 

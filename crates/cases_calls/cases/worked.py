@@ -57,11 +57,12 @@ def conversions(bench):
 
 
 def bits(bench):
-    """NOT is 1-v, 255-v, -1-v; at or past the width Shl and Shr give 0, Ashr copies of the top bit."""
+    """And, Ior and Xor take a literal's low bits; NOT is 1-v, 255-v, -1-v; at or past the width Shl and Shr give 0, Ashr copies of the top bit."""
     far = 2 ** 63 - 1
     for row, cells, word in (
-            ('MOVE o[0] 300', '', 44), ('NOT a[0]', 'a0=1', 0), ('NOT o[0]', 'o0=44', 211), ('NOT n[0]', 'n0=5', -6), ('ASHR o[0] 1', 'o0=128', 192),
-            ('SHL o[0] 8', 'o0=128', 0), (f'SHL o[0] {far}', 'o0=1', 0), (f'ASHR o[0] {far}', 'o0=128', 255), ('ASHR a[0] 5', 'a0=1', 1),
+            ('IOR o[0] 300', '', 44), ('AND o[0] 300', 'o0=255', 44), ('XOR o[0] -1', 'o0=1', 254), ('IOR a[0] 2', 'a0=0', 0), ('AND a[0] -1', 'a0=1', 1),
+            ('NOT a[0]', 'a0=1', 0), ('NOT o[0]', 'o0=44', 211), ('NOT n[0]', 'n0=5', -6), ('ASHR o[0] 1', 'o0=128', 192),
+            ('SHL o[0] 8', 'o0=128', 0), ('SHL o[0] 300', 'o0=1', 0), (f'SHL o[0] {far}', 'o0=1', 0), (f'ASHR o[0] {far}', 'o0=128', 255), ('ASHR a[0] 5', 'a0=1', 1),
             ('ASHR n[0] 1', 'n0=-7', -4), ('SHR n[0] 1', 'n0=-2', far)):
         leaves(bench, row, cells, row.split()[1].replace('[', '').replace(']', ''), word)
     bench.step(16, 'SHL o[0] -1', 'o0=128')

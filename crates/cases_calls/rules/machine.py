@@ -6,12 +6,14 @@ from .tables import *
 from .words import *
 
 WIDTH_OF = {BIT: 1, INTEGER: 64, OCTET: 8}
+# The greatest word of a kind that does not take every one.
+GREATEST = {BIT: 1, OCTET: 255}
 NEG, NOT = 0, 1
 REPLY_ROWS = 64
 
 
 def fits(kind, word):
-    return kind <= REAL and word <= {BIT: 1, OCTET: 255}.get(kind, WORD - 1)
+    return kind <= REAL and word <= GREATEST.get(kind, WORD - 1)
 
 
 class Machine:
@@ -60,13 +62,14 @@ class Machine:
         return self.start(name) + offset
 
     def literal_for(self, place, form, word):
-        """A literal as the target cell takes it; of the cell the kind alone is read."""
+        """A literal in the target cell, of which the kind alone is read; 24 for an integer "outside 0 to 1 for BIT or 0 to 255 for OCTET"."""
         kind, _ = self.cell(place)
         if form == REAL_LITERAL:
             need(kind == REAL, 18)
             return REAL, word
         need(kind in WIDTH_OF, 18)
-        return kind, word % (1 << WIDTH_OF[kind])
+        need(kind not in GREATEST or 0 <= signed(word) <= GREATEST[kind], 24)
+        return kind, word
 
 
 def written(row):

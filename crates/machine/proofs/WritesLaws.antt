@@ -6,10 +6,11 @@ use mathlib.Core.Path.{_≡_, refl, subst}
 use lib.ListN.{length}
 use lib.Dec.{eqb, ltb}
 use Rattle.words.specs.Kind.{real, integerLiteral, realLiteral}
+use Rattle.words.specs.Literal.{literalFits}
 use Rattle.tables.specs.Cases.{caseOf}
 use Rattle.tables.specs.Family as family
 use Rattle.tables.specs.Names.{operandsOf, namesFirst, indexesFirst, indexesSecond}
-use Rattle.tables.specs.Refusal.{noRule}
+use Rattle.tables.specs.Refusal.{noRule, unfitLiteral}
 use Rattle.tables.specs.Outcome.{Outcome, ok, refuse}
 use Rattle.tables.specs.Rows.{regionRows}
 use Rattle.tables.specs.Cells.{cellCount}
@@ -22,7 +23,7 @@ use Rattle.operands.specs.Address.{indexedOf, namesOf, addressesOf}
 use Rattle.operands.specs.Cells.{cellKind, readOf, sourceOf, offsetOf, conditionOf}
 use Rattle.operators.specs.Operators.{arithmeticKinds, arithmeticResult, comparisonKinds, logicKinds, logicResult, unaryKinds}
 use Rattle.operators.specs.Convert.{convertKinds, convertResult}
-use Rattle.machine.specs.Families.{putInto, noWrites, families, combinedOf, arithmeticOf, comparisonOf, logicOf, unaryOf, moveOf, exchangeOf, loadOf, storeOf, conditionalOf, convertOf, familyOf}
+use Rattle.machine.specs.Families.{putInteger, putInto, noWrites, families, combinedOf, arithmeticOf, comparisonOf, logicOf, unaryOf, moveOf, exchangeOf, loadOf, storeOf, conditionalOf, convertOf, familyOf}
 use Rattle.machine.specs.Outcome.{plainOutcome}
 use Rattle.operands.specs.declared.cell.Value.{Value}
 use Rattle.operands.specs.declared.address.NamedRegions.{NamedRegions}
@@ -71,9 +72,10 @@ module _ {regions : List ℕ} (laid : Laid regions) (cells : List ℕ) where
   once h = fine (record { within = single h; count = refl })
 
   put-within : (c : ℕ) (v : Value) → c < cellCount regions → Reaches 1 (putInto cells c v)
-  unfolding putInto caseOf
+  unfolding putInto putInteger caseOf
   put-within c v h =
-      either (eqb (v .kind) integerLiteral) (λ e. tested noRule (ltb (cellKind cells c) real) tt (λ t. once h))
+      either (eqb (v .kind) integerLiteral)
+      (λ e. tested noRule (ltb (cellKind cells c) real) tt (λ t. tested unfitLiteral (literalFits (cellKind cells c) (v .word)) tt (λ f. once h)))
       (λ e. either (eqb (v .kind) realLiteral) (λ e. tested noRule (eqb (cellKind cells c) real) tt (λ t. once h)) (λ e. once h))
 
   -- the cell that an offset reaches

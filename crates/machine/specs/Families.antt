@@ -1,13 +1,14 @@
--- What a row of each family does, from its operands' cells on. 01, Order: "18 row's cells, 14 index from a cell, 18 cell reached, 15, 16", and 02, P5: 23 "after 16"; then the writes.
+-- What a row of each family does, from its operands' cells on. 01, Order: "18 row's cells, 14 index from a cell, 18 cell reached, 15, 16", with
+-- 02's 24 "before 15" (P6) and 23 "after 16" (P5); then the writes.
 use Prim.Native.Nat.{ℕ}
 use mathlib.Core.Bool.{Bool}
 use mathlib.Core.List.{List, [], _∷_}
 use lib.Dec.{eqb, ltb}
-use Rattle.words.specs.Kind.{bit, real, integerLiteral, realLiteral, widthOf}
-use Rattle.words.specs.Width.{lowBits}
+use Rattle.words.specs.Kind.{bit, real, integerLiteral, realLiteral}
+use Rattle.words.specs.Literal.{literalFits}
 use Rattle.tables.specs.Cases.{caseOf}
 use Rattle.tables.specs.Family as family
-use Rattle.tables.specs.Refusal.{noRule}
+use Rattle.tables.specs.Refusal.{noRule, unfitLiteral}
 use Rattle.tables.specs.Outcome.{Outcome, ok, _>>=_, _>>_, need}
 use Rattle.tables.specs.declared.rows.Instruction.{Instruction}
 use Rattle.operands.specs.Cells.{cellKind, readOf, sourceOf, offsetOf, conditionOf, write}
@@ -24,20 +25,24 @@ one c k w = write c k w ∷ []
 
 -- ---- the source put into cell c: "in move and store a literal's target is read for its kind alone"
 
--- "An integer literal takes the target cell's kind, keeping the low 1, 8 or 64 bits; no rule for REAL."
-abbrev pub putInteger : List ℕ → ℕ → ℕ → Outcome (List Write)
-putInteger cells c word = need (ltb (cellKind cells c) real) noRule >> ok (one c (cellKind cells c) (lowBits (widthOf (cellKind cells c)) word))
+-- `kind` is the target cell's. "An integer literal takes the target cell's kind, ..; no rule for REAL." 02, P6: "MOVE and STORE of a literal outside 0 to 1
+-- for BIT or 0 to 255 for OCTET now stop", with 24 "after the kind of the reached cell is looked at and before 15". What fits is written as it is.
+unfoldable pub putInteger : ℕ → ℕ → ℕ → Outcome (List Write)
+putInteger c kind word = do
+  need (ltb kind real) noRule
+  need (literalFits kind word) unfitLiteral
+  ok (one c kind word)
 
 -- "real literal elsewhere is 2"
-abbrev pub putReal : List ℕ → ℕ → ℕ → Outcome (List Write)
-putReal cells c word = need (eqb (cellKind cells c) real) noRule >> ok (one c real word)
+abbrev pub putReal : ℕ → ℕ → ℕ → Outcome (List Write)
+putReal c kind word = need (eqb kind real) noRule >> ok (one c real word)
 
 -- "Move, load, store copy kind and word."
 abbrev pub copied : ℕ → Value → Outcome (List Write)
 copied c s = ok (one c (s .kind) (s .word))
 
 abbrev pub literals : List ℕ → ℕ → ℕ → List (ℕ × Outcome (List Write))
-literals cells c word = (integerLiteral, putInteger cells c word) ∷ (realLiteral, putReal cells c word) ∷ []
+literals cells c word = (integerLiteral, putInteger c (cellKind cells c) word) ∷ (realLiteral, putReal c (cellKind cells c) word) ∷ []
 
 -- an integer literal, a real literal, else a cell's value
 unfoldable pub putInto : List ℕ → ℕ → Value → Outcome (List Write)

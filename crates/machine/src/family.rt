@@ -1,6 +1,6 @@
 // What a row of each family does, from its operands' cells on.
 ghost use mathlib.Core.Path.{_≡_};
-ghost use Rattle.machine.specs.Families.{putInto, arithmeticOf, comparisonOf, logicOf, unaryOf, moveOf, exchangeOf, loadOf, storeOf, convertOf, conditionalOf, familyOf};
+ghost use Rattle.machine.specs.Families.{putInteger, putInto, arithmeticOf, comparisonOf, logicOf, unaryOf, moveOf, exchangeOf, loadOf, storeOf, convertOf, conditionalOf, familyOf};
 ghost use Rattle.machine.specs.Outcome.{rowOutcome};
 ghost use Rattle.operands.specs.Reach.{There};
 ghost use Rattle.machine.specs.Reach.{TargetAndSource, Compared, Exchanged, Loading, Storing, Placed};
@@ -25,13 +25,30 @@ use tables::refusal::INDEX_PAST_LENGTH;
 use tables::refusal::NEGATIVE_SHIFT_COUNT;
 use tables::refusal::NO_RULE;
 use tables::refusal::OUTSIDE_INTEGER;
+use tables::refusal::UNFIT_LITERAL;
 use tables::refusal::ZERO_DIVISOR;
 use tables::rows::Instruction;
 use words::convert::Converted;
 use words::integer::Quotient;
 use words::kind;
-use words::width;
 use words::width::Shifted;
+
+// An integer literal put into cell c, which has that kind. A negative literal's word is no word of BIT or OCTET.
+fn put_integer(c: usize, kind: u64, word: u64) -> RowOutcome
+    ensures { λ r. ⌜ rowOutcome r ≡ putInteger c kind word ⌝ }
+{
+    if kind >= kind::REAL {
+        return RowOutcome::Refused(NO_RULE);
+    }
+    if !kind::fits(kind, word) {
+        return RowOutcome::Refused(UNFIT_LITERAL);
+    }
+    RowOutcome::One(Write {
+        cell: c,
+        kind,
+        word,
+    })
+}
 
 // The source put into cell c. A literal's target is read for its kind alone; a reference is copied.
 fn put_into(cells: &[u64], c: usize, s: Value) -> RowOutcome
@@ -42,16 +59,7 @@ fn put_into(cells: &[u64], c: usize, s: Value) -> RowOutcome
     let code = s.kind;
     let kind = cells[CELL_WIDTH * c];
     match code {
-        kind::INTEGER_LITERAL => {
-            if kind < kind::REAL {
-                return RowOutcome::One(Write {
-                    cell: c,
-                    kind,
-                    word: width::low_bits(kind, word),
-                });
-            }
-            RowOutcome::Refused(NO_RULE)
-        }
+        kind::INTEGER_LITERAL => put_integer(c, kind, word),
         kind::REAL_LITERAL => {
             if kind == kind::REAL {
                 return RowOutcome::One(Write {

@@ -3,7 +3,7 @@ use Prim.Native.Nat.{ℕ, _-_, _^_}
 use mathlib.Core.List.{List, [], _∷_, _++_}
 use mathlib.Core.Path.{_≡_, refl}
 use Rattle.tables.specs.Bench.{a, n, o, r, q}
-use Rattle.tables.specs.Refusal.{atEnd, journalFull, indexPastLength, negativeShiftCount}
+use Rattle.tables.specs.Refusal.{atEnd, journalFull, indexPastLength, negativeShiftCount, unfitLiteral}
 use Rattle.words.specs.Kind.{bit, integer, octet, real, realLiteral}
 use Rattle.type_rules.specs.Numbers.{imaginary, realOrIntegral, firstSpot, sourceSpot, nodeSpot}
 use Rattle.type_rules.specs.Judgement.{Judgement, undefinedMemoryReference, dataTypeMismatch, realValueRequired, operatorOperandMismatch, verdictAt}
@@ -60,8 +60,10 @@ pub record Bench : Type 0 where
       × (run [] (ADD-INTEGER a 1) 4 [] .opening ≡ failing (operatorOperandMismatch firstSpot bit realOrIntegral))
   -- "STORE n n[0] q[0] with q undeclared is error 1", by 02, P1, "at spot 3, in the bench example too"
   pub store-undeclared : run [] (STORE n n q) 4 [] .opening ≡ failing (undefinedMemoryReference sourceSpot)
-  -- "MOVE o[0] 300 leaves 44."
-  pub move-300 : run [] (MOVE o 300) 4 (step ∷ []) .memory ≡ cells 0 44 0 0
+  -- "MOVE o[0] 300", by 02, P6, is 24, and nothing is written
+  pub move-300 :
+      (run [] (MOVE o 300) 4 (step ∷ []) .steps ≡ refused unfitLiteral 0 0 ∷ [])
+      × (run [] (MOVE o 300) 4 (step ∷ []) .memory ≡ cells 0 0 0 0)
   -- "-7 by 2 is -3."
   pub minus-seven-by-two : run [] (MOVE n (2 ^ 64 - 7) ++ DIV n 2) 4 (step ∷ step ∷ []) .memory ≡ cells (2 ^ 64 - 3) 0 0 0
   -- "o = 128: ASHR 1 gives 192, SHL 8 gives 0, SHL -1 is 16."
@@ -93,7 +95,7 @@ bench =
       empty = (refl, refl);
       add = (refl, refl);
       store-undeclared = refl;
-      move-300 = refl;
+      move-300 = (refl, refl);
       minus-seven-by-two = refl;
       shifts = (refl, refl, refl);
       imaginary-part = (refl, refl);

@@ -6,6 +6,7 @@ use lib.Ieee.{ofBits, lt}
 use Rattle.words.specs.Kind.{widthOf, fitsKind}
 use Rattle.words.specs.TwosComplement.{signed, wordOf}
 use Rattle.words.specs.Integer.{integerDivide, integerQuotient, integerIsNegative}
+use Rattle.words.specs.Literal.{literalFits}
 use Rattle.words.specs.Width.{lowBits, shlAt, ashrAt, shifted, shiftLeft, shiftRightArithmetic}
 use Rattle.reals.specs.Real.{size, realAboveEpsilon}
 use Rattle.tables.specs.Bench.{declarations}
@@ -112,7 +113,7 @@ pub record Run : Type 0 where
 
 -- The lent memory has room for the eight cells, and the journal for so many entries; both hold something else before. All that the calls rest on is unfolded.
 unfoldable pub run : List ℕ → List ℕ → ℕ → List Call → Run
-unfolding fitsKind widthOf lowBits signed wordOf integerIsNegative integerDivide integerQuotient shiftLeft shiftRightArithmetic shifted shlAt ashrAt
+unfolding fitsKind widthOf lowBits literalFits signed wordOf integerIsNegative integerDivide integerQuotient shiftLeft shiftRightArithmetic shifted shlAt ashrAt
     realAboveEpsilon size ofBits lt caseOf
     _>>=_ _>>_ need first every loadLook wholeTables wholeRows allowedTables regionsAllowed regionAllowed externsAllowed parametersAllowed nodesAllowed
     nodeAllowed argumentsAllowed instructionsAllowed instructionAllowed flowOperatorsOf operatorsOf formAllowed sourceAllowed flowOperandsAllowed operandsAllowed oneTree inside treesFrom
@@ -121,7 +122,7 @@ unfolding fitsKind widthOf lowBits signed wordOf integerIsNegative integerDivide
     exchangeRule loadRule loadOffset storeRule storeSource frameRule treeVerdict nodeVerdict numberVerdict
     put applied flatten olds log closing entered journaled entriesAt restored undone present
     operandsOf namesFirst namesSecond indexesFirst indexesSecond zeros zerosFrom declaredKind regionOf regionAmong outcomeAt outcomeOf plainOutcome namesOf namedOf addressesOf writtenOf indexedOf indexFits addressOf
-    readOf sourceOf readWord families.familyOf families.putInto families.combinedOf families.arithmeticOf families.logicOf families.moveOf families.exchangeOf
+    readOf sourceOf readWord families.familyOf families.putInto families.putInteger families.combinedOf families.arithmeticOf families.logicOf families.moveOf families.exchangeOf
     families.loadOf arithmeticResult integerResult logicResult
     openTables openCells openVerdict tablesVerdict programVerdict preparedOf tablesLook buffersFit programLook noOther labelsFit labelsDistinct targetsPresent labelled conditionsFit conditionFits conversionsFit conversionFits callsLook callLook withTail
     nextRow forwardTables stepped forwardLook placedLook stepLook roomFor positionFits backTables takenBack backLook journalLook answers end

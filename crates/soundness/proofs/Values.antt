@@ -7,10 +7,11 @@ use native.Mathlib.Omega.{arith}
 use lib.Dec.{eqb, ltb}
 use borrow.Author.Tests.{eqb-true, eqb-false, eq-eqb}
 use Rattle.words.specs.Kind.{integerLiteral, realLiteral, widthOf, fitsKind}
-use Rattle.words.specs.Width.{lowBits}
-use Rattle.words.specs.Fits.{fits-of, fits-below, lowBits-fits}
+use Rattle.words.specs.Literal.{literalFits}
+use Rattle.words.specs.Fits.{fits-of, fits-below}
+use Rattle.words.proofs.Literal.{literal-fits}
 use Rattle.tables.specs.Cases.{caseOf}
-use Rattle.tables.specs.Refusal.{noRule}
+use Rattle.tables.specs.Refusal.{noRule, unfitLiteral}
 use Rattle.tables.specs.Outcome.{Outcome, ok, refuse, _>>_, need}
 use Rattle.tables.specs.Cells.{cellCount}
 use Rattle.tables.specs.declared.rows.Instruction.{Instruction}
@@ -22,7 +23,7 @@ use Rattle.operands.specs.Cells.{cellKind, readOf, sourceOf, readWord, write}
 use Rattle.operators.specs.Operators.{comparisonKinds}
 use Rattle.machine.specs.Families as F
 use Rattle.operands.specs.declared.cell.Value.{Value}
-use Rattle.machine.proofs.Ends.{Ends, Ruled, fine, bind, ruled}
+use Rattle.machine.proofs.Ends.{Ends, Ruled, fine, bind, tested, ruled}
 use Rattle.machine.proofs.WritesLaws.{single}
 use Rattle.operands.specs.Typed.{Fits, Typed}
 use Rattle.soundness.proofs.Regions.{Cell}
@@ -82,13 +83,15 @@ module _ {regions cells : List ℕ} (typed : Typed regions cells) where
 
   -- a source that fits the kind of the cell that it is put into
   pub put-ends : {k s c : ℕ} (v : Value) → Cell regions k c → Holds s v → comparisonKinds k s ≡ true → Keeps regions (F.putInto cells c v)
-  unfolding F.putInto caseOf widthOf
+  unfolding F.putInto F.putInteger caseOf widthOf
   put-ends {k} {s} {c} v t h e = rw (h .kind-is, cell-kind t) (at (eqb s integerLiteral) (eqb s realLiteral) refl refl e)
     where
       at : (a b : Bool) → eqb s integerLiteral ≡ a → eqb s realLiteral ≡ b → cond a (ltb k 3) (cond b (eqb k 3) (eqb k s)) ≡ true
-          → Keeps regions (cond a (need (ltb k 3) noRule >> ok (F.one c k (lowBits (widthOf k) (v .word))))
+          → Keeps regions (cond a (need (ltb k 3) noRule >> (need (literalFits k (v .word)) unfitLiteral >> ok (F.one c k (v .word))))
           (cond b (need (eqb k 3) noRule >> ok (F.one c 3 (v .word))) (ok (F.one c s (v .word)))))
-      at true b ea eb e = ruled e (fine (single (kept t refl (lowBits-fits k (v .word) (t .small)))))
+      at true b ea eb e =
+          let l : v .word < 2 ^ widthOf 4 = rw (eqb-true s integerLiteral ea) at (h .below) in
+          ruled e (tested unfitLiteral (literalFits k (v .word)) refl (λ f. fine (single (kept t refl (sym (literal-fits k (v .word) (t .small) l) ∙ f)))))
       at false true ea eb e =
           let q = eqb-true k 3 e in
           let l : v .word < 2 ^ widthOf 3 = rw (eqb-true s realLiteral eb) at (h .below) in

@@ -14,6 +14,7 @@ use tables::refusal::TABLE_SHAPE;
 use tables::refusal::TYPE_ERROR;
 use tables::refusal::UNFIT_CONVERSION;
 use tables::refusal::UNFIT_LABELS;
+use tables::refusal::UNFIT_LITERAL;
 use tables::refusal::WORD_NOT_ALLOWED;
 
 // A line for each number; there is no refusal 0.
@@ -42,12 +43,13 @@ fn calls(refusal: u64) {
         open, journal_length, forward (each looks at all rows)\n\
         open, journal_length\n\
         open, journal_length\n\
-        forward",
+        forward\n\
+        forward (a MOVE or a STORE)",
         refusal,
     );
 }
 
-// Each kind of place, of type error and of argument error has an example of its own, each cause of 19 to 23, a frame's left operand, and a journal that is long enough.
+// Each kind of place, of type error and of argument error has an example of its own, each cause of 19 to 24, a frame's left operand, and a journal that is long enough.
 fn more(refusal: u64) {
     match refusal {
         TABLE_SHAPE => text(b"- A table over its limit: `examples/refusal-1-limit.tables`\n"),
@@ -81,6 +83,9 @@ fn more(refusal: u64) {
         OUTSIDE_INTEGER => text(
             b"- A NaN: `examples/refusal-23-nan.tables`; an infinity: `-infinity.tables`\n",
         ),
+        UNFIT_LITERAL => text(
+            b"- A STORE into a BIT: `examples/refusal-24-bit.tables`; a negative literal: `-negative.tables`\n",
+        ),
         _ => {}
     }
 }
@@ -102,7 +107,7 @@ fn refusal_entry(refusal: u64) {
 
 fn refusal_entries() {
     let mut refusal = TABLE_SHAPE;
-    while refusal <= OUTSIDE_INTEGER {
+    while refusal <= UNFIT_LITERAL {
         refusal_entry(refusal);
         refusal += 1;
     }
@@ -111,7 +116,7 @@ fn refusal_entries() {
 fn intro() {
     text(
         b"# What is turned down, and why\n\n\
-        A program, a key or a reply is turned down for one of twenty-three causes, and for no other. \
+        A program, a key or a reply is turned down for one of twenty-four causes, and for no other. \
         A call looks for them in its order and gives the first; what it is lent stays as it was, but for what it tells: with 5 the type error, in frame also the nodes looked at, and in resolve with 8 the error rows. \
         A run that comes to a step which is refused stops before it: the number is then told in its answer, and the steps that it took stay. \
         Of 1, 2 and 3 the console names the table, and the row and the word or both rows; of 20 and 21 the row and the name, or both rows; of 22 the row and the name, or both kinds.\n\n\
@@ -125,7 +130,7 @@ fn intro() {
         | open | 1, 2, 3, 10, 4, 5, 9, 20, 21, 22, then 6, 7, 8 row by row |\n\
         | journal_length | 1, 2, 3, 10, 5, 9, 20, 21, 22, then 6, 7, 8 row by row |\n\
         | forward, a CALL | 1, 2, 3, 10, 4, 19, 11, 9, 20, 6, 7, 8, 14, 17, 13 |\n\
-        | forward, any other row | 1, 2, 3, 10, 4, 19, 11, 9, 20, 17, 18 (names), 14 (written indices), 18 (the row's cells), 14 (an index from a cell), 18 (the cell reached), 15, 16, 23, 13 |\n\
+        | forward, any other row | 1, 2, 3, 10, 4, 19, 11, 9, 20, 17, 18 (names), 14 (written indices), 18 (the row's cells), 14 (an index from a cell), 18 (the cell reached), 24, 15, 16, 23, 13 |\n\
         | run | 1, 2, 3, 10, 4, 19; then, before each step, its allowance, the end, a CALL, and forward's from 9 on, which it tells as a stop |\n\
         | back | 1, 2, 3, 10, 4, 19 (position), 12, 19 (journal) |\n",
     );

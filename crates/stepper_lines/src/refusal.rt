@@ -42,7 +42,8 @@ pub fn cause(refusal: u64) {
         a label stands on two LABEL rows, or a jump goes to a label that stands on none\n\
         the condition of a jump is not declared, or not BIT\n\
         a CONVERT is not between INTEGER and REAL, or one of its names is not declared\n\
-        a REAL to convert is a NaN, an infinity, or outside -2^63 to 2^63-1 after its fraction is dropped",
+        a REAL to convert is a NaN, an infinity, or outside -2^63 to 2^63-1 after its fraction is dropped\n\
+        an integer literal is outside its target's kind: 0 to 1 for a BIT, 0 to 255 for an OCTET",
         refusal,
     );
 }

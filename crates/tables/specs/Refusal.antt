@@ -100,3 +100,8 @@ unfitConversion = 22
 -- a NaN, an infinity or a value outside -2^63 to 2^63-1 after the fraction is dropped
 abbrev pub outsideInteger : ℕ
 outsideInteger = 23
+
+-- Program's author, by 02, P6: "an integer literal too big for its cell is a programming error".
+-- a MOVE or STORE of a literal outside 0 to 1 for BIT or 0 to 255 for OCTET
+abbrev pub unfitLiteral : ℕ
+unfitLiteral = 24

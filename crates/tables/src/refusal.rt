@@ -53,3 +53,6 @@ pub const UNFIT_CONVERSION: u64 = 22;
 
 // The running program's, by 02.
 pub const OUTSIDE_INTEGER: u64 = 23;
+
+// The program's author's, by 02.
+pub const UNFIT_LITERAL: u64 = 24;

@@ -6,6 +6,7 @@ pub mod Quotients
 pub mod Order
 pub mod Widths
 pub mod Shifts
+pub mod Literal
 pub mod Gaps
 pub mod Units
 pub mod Distances

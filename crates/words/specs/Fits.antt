@@ -8,8 +8,8 @@ use lib.Signed.{quotZ}
 use borrow.Author.Tests.{ltb-true, lt-ltb}
 use Rattle.words.specs.Kind.{widthOf, fitsKind}
 use Rattle.words.specs.Integer.{number, integerAdd, integerSubtract, integerMultiply, integerNegate, integerQuotient, integerDivide}
-use Rattle.words.specs.Width.{lowBits, notAt, andAt, iorAt, xorAt, shlAt, shrAt, ashrAt, shifted, shiftLeft, shiftRight, shiftRightArithmetic}
-use Rattle.words.specs.WidthLaws.{word-below, low-below, not-below, and-below, ior-below, xor-below, shl-below, shr-below, ashr-below, shifted-word}
+use Rattle.words.specs.Width.{notAt, andAt, iorAt, xorAt, shlAt, shrAt, ashrAt, shifted, shiftLeft, shiftRight, shiftRightArithmetic}
+use Rattle.words.specs.WidthLaws.{word-below, not-below, and-below, ior-below, xor-below, shl-below, shr-below, ashr-below, shifted-word}
 use Rattle.words.specs.declared.integer.Quotient.the-variants as quotient
 use Rattle.words.specs.declared.width.Shifted.the-variants as answers
 
@@ -72,9 +72,6 @@ unfolding widthOf
 real-fits word h = fits-of 3 word (lit< tt) h
 
 -- ---- bits, at the width of a kind
-
-pub lowBits-fits : (kind v : ℕ) → kind < 4 → fitsKind kind (lowBits (widthOf kind) v) ≡ true
-lowBits-fits kind v k = fits-of kind (lowBits (widthOf kind) v) k (low-below (widthOf kind) v)
 
 module _ (kind v : ℕ) (f : fitsKind kind v ≡ true) where
   small : v < 2 ^ widthOf kind

@@ -27,7 +27,7 @@ integerLiteral = 4
 abbrev pub realLiteral : ℕ
 realLiteral = 5
 
--- How many bits a word of a kind has. 01, Machine: "the low 1, 8 or 64 bits".
+-- How many bits a word of a kind has. 01, The laboratory's note: "used at 1, 8 and 64".
 -- A number that is no kind has 64 too.
 unfoldable pub widthOf : ℕ → ℕ
 widthOf kind = cond (eqb kind bit) 1 (cond (eqb kind octet) 8 64)

@@ -19,7 +19,7 @@ module _ (w : ℕ) where
   abbrev pub ones : ℕ
   ones = 2 ^ w - 1
 
-  -- 01, Machine: "keeping the low 1, 8 or 64 bits".
+  -- 01, Machine: "low bits at the destination's width".
   unfoldable pub lowBits : ℕ → ℕ
   lowBits v = v % 2 ^ w
 

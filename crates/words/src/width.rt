@@ -16,7 +16,7 @@ fn full(kind: u64) -> u64
     }
 }
 
-pub fn low_bits(kind: u64, v: u64) -> u64
+fn low_bits(kind: u64, v: u64) -> u64
     ensures { λ r. ⌜ r ≡ lowBits (widthOf kind) v ⌝ }
 {
     match kind {

@@ -1,6 +1,6 @@
 use Prim.Native.Nat.{ℕ}
 use borrow.Author.Needs.{needs}
-use borrow.Author.Tests.{eq-eqb, ne-eqb, lt-ltb, le-ltb}
+use borrow.Author.Tests.{eq-eqb, ne-eqb}
 use Rattle.tables.specs.Cases.{caseOf}
 use Rattle.tables.specs.Outcome.{_>>_, need}
 use Rattle.tables.proofs.Cases.{other-arm}
@@ -22,28 +22,24 @@ mul-kind-2 c = search needs
 shared-slice-read-kind : tie.Need-shared-slice-read-kind
 shared-slice-read-kind c = search needs
 
-low-bits-requires : tie.Need-low-bits-requires
-low-bits-requires c κs = search needs
+put-integer-requires : tie.Need-put-integer-requires
+put-integer-requires c κs = search needs
 
 returns : tie.Need-returns
 unfolding putInto caseOf _>>_ need
-returns c = rw (c .before .before .match .keys1, lt-ltb (kind (c .before .before .before)) 3 (c .before .if1 .taken), c .low-bits .ensures)
+returns c = rw (c .before .match .keys2, eq-eqb (kind (c .before .before)) 3 (c .if1 .taken))
 
 returns-2 : tie.Need-returns-2
-unfolding putInto caseOf _>>_ need
-returns-2 c = rw (c .before .match .keys2, eq-eqb (kind (c .before .before)) 3 (c .if2 .taken))
+unfolding putInto caseOf
+returns-2 c = rw (c .before .match .keys1) (c .put-integer .ensures)
 
 returns-3 : tie.Need-returns-3
 unfolding putInto caseOf _>>_ need
-returns-3 c = rw (c .before .match .keys1, le-ltb (kind (c .before .before)) 3 (c .if1 .left))
+returns-3 c = rw (c .before .match .keys2, ne-eqb (kind (c .before .before)) 3 (c .if1 .left))
 
 returns-4 : tie.Need-returns-4
-unfolding putInto caseOf _>>_ need
-returns-4 c = rw (c .before .match .keys2, ne-eqb (kind (c .before .before)) 3 (c .if2 .left))
-
-returns-5 : tie.Need-returns-5
 unfolding putInto
-returns-5 c = let a = c .before .before .before .args in other-arm (literals (a .cells .now) (a .c) (a .s .word)) (copied (a .c) (a .s)) _ (c .match .rest)
+returns-4 c = let a = c .before .before .before .args in other-arm (literals (a .cells .now) (a .c) (a .s .word)) (copied (a .c) (a .s)) _ (c .match .rest)
 
 pub put-into-spec : {M : Type 1} → statement M
 put-into-spec =
@@ -52,9 +48,8 @@ put-into-spec =
     mul-kind
     mul-kind-2
     shared-slice-read-kind
-    low-bits-requires
+    put-integer-requires
     returns
     returns-2
     returns-3
-    returns-4
-    returns-5)
+    returns-4)

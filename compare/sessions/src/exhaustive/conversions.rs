@@ -1,12 +1,7 @@
 //! Every CONVERT row by its operands: all pairs of declared kinds, undeclared names too, stepped with cells of any kind;
 //! indices at and past the length; and each of its words made another.
-use crate::list::{Action, List};
-use tables::{blanks, Tables};
-
-/// The kinds' regions have their kind's number; each has two cells.
-const UNDECLARED: u64 = 4;
-const CHOICES: [u64; 5] = [0, 1, 2, 3, UNDECLARED];
-const LENGTH: u64 = 2;
+use super::{opened, stepped, CHOICES, LENGTH};
+use crate::list::List;
 
 /// Cells that a foreign writer left in the source: each kind with words on either side of what it can hold, and a kind
 /// that is none.
@@ -48,7 +43,9 @@ fn of_pair(to: u64, from: u64) -> Vec<List> {
         .map(|&[i, j]| opened([16, 0, to, i, 0, 0, 2, from, j]))
         .collect();
     for source in SOURCES {
-        lists.extend(DESTINATIONS.iter().map(|&destination| stepped(to, from, destination, source)));
+        // With one name the cell is the source's.
+        let cells = DESTINATIONS.map(|destination| [([to, 1], destination), ([from, 1], source)]);
+        lists.extend(cells.map(|cells| stepped([16, 0, to, 1, 0, 0, 2, from, 1], cells)));
     }
     lists
 }
@@ -63,29 +60,4 @@ fn other_words() -> impl Iterator<Item = [u64; 9]> {
             row
         })
     })
-}
-
-fn list(row: [u64; 9], actions: Vec<Action>) -> List {
-    let regions = (0..4).flat_map(|kind| [kind, kind, LENGTH]).collect();
-    let tables = Tables { regions, instructions: row.to_vec(), ..Tables::default() };
-    List { tables, memory: blanks(16), journal: blanks(6), position: [0; 3], actions }
-}
-
-fn opened(row: [u64; 9]) -> List {
-    let forward = Action::Forward(Vec::new());
-    list(row, vec![Action::JournalLength, Action::Open, forward, Action::Back, Action::Run(2)])
-}
-
-/// Both regions' second cells hold these; with one name the source's.
-fn stepped(to: u64, from: u64, destination: [u64; 2], source: [u64; 2]) -> List {
-    let row = [16, 0, to, 1, 0, 0, 2, from, 1];
-    let forward = Action::Forward(Vec::new());
-    let mut list = list(row, vec![forward, Action::Back, Action::Run(2)]);
-    for (name, cell) in [(to, destination), (from, source)] {
-        let at = 2 * (LENGTH * name + 1) as usize;
-        if let Some(there) = list.memory.get_mut(at..at + 2) {
-            there.copy_from_slice(&cell);
-        }
-    }
-    list
 }
