@@ -17,7 +17,7 @@ use type_rules::rules::type_check_move;
 use type_rules::rules::type_check_store;
 use type_rules::rules::type_check_unary_logic;
 
-fn check_row(regions: &[u64], nodes: &[u64], row: u64, x: Instruction) -> Verdict
+pub fn check_row(regions: &[u64], nodes: &[u64], row: u64, x: Instruction) -> Verdict
     requires { ⌜ FrameInside (now nodes) x ⌝ }
     ensures { λ r. ⌜ r ≡ verdictOf (now (regions .entry)) (now (nodes .entry)) row x ⌝ }
 {

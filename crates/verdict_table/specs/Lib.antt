@@ -1,0 +1,4 @@
+pub mod Forms
+pub mod Chart
+pub mod Place
+pub mod Claim
