@@ -42,6 +42,8 @@ damaged_files() {
     (cd .. && rt check stepper) && damage/damage.py --runs 50 && damage/where.py
 }
 
+chart_files() { python3 ../crates/verdict_digits/model.py --check; }
+
 # step WHAT FUNCTION
 step() {
     if $2 >"target/$2.log" 2>&1; then
@@ -59,9 +61,10 @@ quick() {
     step "the C program of the other calls writes its calls.expected" c_calls
     step "the tests of bindings/, with std and without" rust_tests
     step "the Rust session of at most 60 lines, built as its page says, writes its step.expected" rust_example
-    step "a short comparison with quil-rs differs nowhere" comparison
+    step "a short comparison with quil-rs, and that of all 610 verdicts of the chart, differs nowhere" comparison
     step "20,000 call lists differ nowhere and reach all that they must" call_lists
     step "CONVERT of 100,000 words each way and of the edges is as 02 says, by whole numbers and by decimals" conversions
+    step "docs/chart.html, and what the gate holds the chart's programs to, is what the model makes" chart_files
     step "each wrong copy's line is in its file" wrong_copies
     step "damaged example files are read as docs/FORMAT.md says, and a refusal 1, 2, 3, 20, 21 or 22 lies where it is told" damaged_files
     exit $missed

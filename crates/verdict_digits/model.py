@@ -1,5 +1,5 @@
 #!/usr/bin/env python3
-"""Writes what the programs of the chart of verdicts must write: `stdout` here and in verdict_counts, chart_text and chart_page.
+"""Writes what the programs of the chart of verdicts must write: `stdout` here and in verdict_counts, chart_text and chart_page, and docs/chart.html, the page again.
 
 The verdicts come from the rules of cases_calls, whose model.py says what those were written from; forms and order are 02's, P7.
 Seen of the code: the console's mnemonics and its words for the type errors.
@@ -161,7 +161,7 @@ LABEL, GROUP = 11, 13
 TITLE = """\
 Verdicts of the type check
 Operands: u undeclared, b BIT, i INTEGER, o OCTET, r REAL, n integer literal,
-x real literal. Each block is rows by columns; its operators share the verdicts."""
+x real literal. Rows by columns. Operators share verdicts, NEG and NOT apart."""
 
 
 def column_heads(number):
@@ -207,96 +207,28 @@ def text(digits):
     return lines
 
 
-# The chart as a page: one sheet of A3 or two of A4. Short forms of OPERANDS stand above the columns.
-COLUMN_WORDS = ('und.', 'BIT', 'INT', 'OCT', 'REAL', '7', '0.5')
-PAGE_HEAD = """\
+# The chart as a page. Short forms of OPERANDS stand above the columns; 1 fits every kind but REAL.
+COLUMN_WORDS = ('und.', 'BIT', 'INT', 'OCT', 'REAL', '1', '0.5')
+PAGE = CRATES / 'chart_page' / 'stdout'
+
+
+def page_head():
+    """The style is the page's own, as it stands: it is judged by looking at it."""
+    style = PAGE.read_text().partition('<style>\n')[2].partition('</style>\n')[0]
+    return f"""\
 <!DOCTYPE html>
 <html lang=en>
 <meta charset=utf-8>
 <meta name=viewport content='width=device-width, initial-scale=1'>
 <title>Verdicts of the type check</title>
 <style>
-/* A row's label is as wide as --label columns. */
-html { font: clamp(12px, 1.02vw, 18px)/1.15 Arial, 'Liberation Sans', Helvetica, sans-serif; color: #111; background: #fff; --row: 1.9rem; --mark: 1.25rem; --label: 2.8 }
-body { margin: 1.5rem; display: grid; gap: 1rem .94%; grid-template: 'head head head legend legend'
-'arithmetic logic unary move exchange' 'comparison comparison comparison comparison comparison'
-'load load load load counts' 'store store store store store' / 98fr 88fr 48fr 98fr 78fr }
-header { grid-area: head }
-aside { grid-area: legend }
-#arithmetic { grid-area: arithmetic; --cells: 7 }
-#comparison { grid-area: comparison }
-#binary-logic { grid-area: logic; --cells: 6 }
-#unary { grid-area: unary; --cells: 2 }
-#move { grid-area: move; --cells: 7 }
-#exchange { grid-area: exchange; --cells: 5 }
-#load { grid-area: load; padding-right: 9.2% }
-#store { grid-area: store }
-#counts { grid-area: counts; margin-left: -34% }
-h1 { margin: 0 0 .7rem; font-size: 2.2rem; line-height: 1 }
-p { margin: 0 0 .5rem }
-ul { margin: 0; padding: 0; list-style: none }
-li { margin: 0 0 .15rem; padding-left: 2.2rem; text-indent: -2.2rem }
-li b { display: inline-block; box-sizing: border-box; width: 1.7rem; margin-right: .22rem; border: 1px solid #555; text-align: center; text-indent: 0 }
-table { width: 100%; table-layout: fixed; border-collapse: collapse }
-caption { padding-bottom: .1rem; text-align: left; white-space: nowrap }
-caption b { font-size: 1.25rem }
-th { padding: 0; font-weight: 400; text-align: left; white-space: nowrap }
-td { padding: 0; text-align: center }
-thead td { width: calc(100% * var(--label) / (var(--label) + var(--cells))) }
-#comparison thead td, #store thead td { width: 6.6% }
-#load thead td { width: 9% }
-thead th + th, thead td + th { text-align: center }
-tr + tr th + th { font-size: .76rem }
-tbody td { height: var(--row); border: 1px solid #555; font-size: var(--mark); line-height: 1 }
-#comparison td:nth-child(7n+9), #store td:nth-child(7n+9), #load td:nth-child(5n+7) { border-left: .25rem solid #111 }
-#counts thead td { width: 32% }
-#counts tbody { font-size: .9rem }
-#counts td { height: auto; padding-right: .5rem; border: 0; font-size: inherit; line-height: inherit; text-align: right }
-#counts tbody tr:last-child > * { border-top: 1px solid #555 }
-.a, .u, .d, .r, .o { -webkit-print-color-adjust: exact; print-color-adjust: exact }
-.a { background: #004d4d; color: #fff; font-weight: 700 }
-/* Where fills are not printed a frame is left. */
-td.a { outline: .18rem solid #004d4d; outline-offset: -.22rem }
-.d { background: #ffd98c }
-.r { background: #bcdcf5 }
-.o { background: #cfbde0 }
-/* On a narrow screen each block scrolls by itself. */
-@media screen and (max-width: 1100px) {
-body { display: block; margin: 1rem }
-div, aside { margin-top: 1.5rem; overflow-x: auto }
-#load { padding: 0 }
-#counts { margin-left: 0 }
-table { width: auto }
-tbody td, #counts td { min-width: 1.9rem }
-th:first-child { position: sticky; left: 0; padding-right: .5rem; background: #fff }
-}
-/* A3 is one sheet. Paper with a side under 265 mm, as A4, is two: three operands have the second. */
-@page { size: landscape; margin: 10mm }
-@media print {
-html { --row: 7mm; --mark: 5.7mm; font-size: 4.4mm }
-body { margin: 0; padding: 1px }
-div { break-inside: avoid }
-}
-@media print and (max-width: 265mm), print and (max-height: 265mm) {
-html { --row: 9mm; --mark: 5mm; --label: 2.3; font-size: 3.25mm }
-body { gap: 1rem 3%; grid-template: 'head head head head' 'arithmetic logic unary legend' 'move exchange . counts'
-'comparison comparison comparison comparison' 'load load load load' 'store store store store' / 93fr 83fr 43fr 92fr }
-#comparison { break-before: page }
-header { margin-bottom: 3mm }
-#move, #exchange, #counts { margin-top: 6mm }
-li { margin-bottom: .6rem }
-#counts tbody { font-size: 1rem; line-height: 1.5 }
-#exchange { padding-right: 12% }
-#load { padding-right: 26.7% }
-#counts { margin-left: 0 }
-}
-</style>
+{style}</style>
 <body>
 <header>
 <h1>Verdicts of the type check</h1>
-<p>Rows are the first operand and columns the last; where there are three, each group of columns is a second operand. The operators of a block share its verdicts.
-<p><b>und.</b> undeclared, <b>INT</b> INTEGER, <b>OCT</b> OCTET, <b>7</b> an integer literal, <b>0.5</b> a real literal
-</header>"""
+<p>Rows are the first operand and columns the last; where there are three, each group of columns is a second operand. The operators of a block share its verdicts, NEG and NOT apart.
+<p><b>und.</b> undeclared, <b>INT</b> INTEGER, <b>OCT</b> OCTET, <b>1</b> an integer literal, <b>0.5</b> a real literal
+</header>""".split('\n')
 
 
 def page_legend():
@@ -325,7 +257,7 @@ def across(number):
 def page_block(number, digits):
     family, groups = FAMILIES[number], across(number)
     caption = f'<br>{family.operators}' if len(groups) == 1 else f' {family.operators} <i>{" by ".join(called(number))}</i>'
-    heads = ['<thead><tr><td>' + cells(f'th scope=colgroup colspan={columns(number)}', groups),
+    heads = ['<thead><tr><td>' + cells(f'th scope=col colspan={columns(number)}', groups),
              f'<tr><th scope=col><i>{family.first}</i>' + column_cells(number) * len(groups)]
     lines = [f'<tr><th scope=row>{operand}' + marked('td', ''.join(row)) for operand, row in zip(OPERANDS, rows(number, digits))]
     return table(family.name, caption, heads, lines)
@@ -344,7 +276,7 @@ def page_counts(digits):
 def page(digits):
     """In the order of the table."""
     blocks = [line for number in range(len(FAMILIES)) for line in page_block(number, digits)]
-    return [*PAGE_HEAD.split('\n'), *page_legend(), *blocks, *page_counts(digits)]
+    return [*page_head(), *page_legend(), *blocks, *page_counts(digits)]
 
 
 def outputs():
@@ -361,7 +293,7 @@ def differs(path, content):
 
 def compare(paths):
     """1 where a file differs."""
-    wrong = [str(path.relative_to(CRATES)) for path, content in paths.items() if differs(path, content)]
+    wrong = [str(path.relative_to(CRATES.parent)) for path, content in paths.items() if differs(path, content)]
     if wrong:
         print('not what the model writes:', *wrong, file=sys.stderr)
     return 1 if wrong else 0
@@ -377,7 +309,9 @@ def main(arguments):
     if arguments not in ([], ['--check']):
         print('usage: model.py [--check]', file=sys.stderr)
         return 2
-    paths = {CRATES / crate / 'stdout': content for crate, content in outputs().items()}
+    made = outputs()
+    paths = {CRATES / crate / 'stdout': content for crate, content in made.items()}
+    paths[CRATES.parent / 'docs' / 'chart.html'] = made['chart_page']
     return compare(paths) if arguments else write(paths)
 
 

@@ -1,5 +1,8 @@
-//! The comparison of a console with quil-rs: every small program, and many by chance.
+//! The comparison of a console with quil-rs: every small program, and many by chance; and of the chart that the library
+//! carries.
 mod ask;
+mod carried;
+mod chart;
 mod differ;
 mod exhaustive;
 mod lent;
@@ -11,12 +14,14 @@ mod shrink;
 mod vectors;
 mod walk;
 
+use carried::{Entry, ENTRIES};
+use chart::Said;
 use differ::{difference, Difference};
 use options::Options;
 use program::Program;
 use random_numbers::Random;
 use report::{Line, Progress, Report};
-use tables::{quil_text, random_numbers, words_text, Console};
+use tables::{quil_text, random_numbers, words_text, Console, Query};
 
 /// quil-rs goes down a tree by calling itself, so a tree of 2,048 levels wants room.
 const STACK: usize = 1 << 30;
@@ -24,9 +29,10 @@ const STACK: usize = 1 << 30;
 /// Differences that are shrunk and shown, for each set.
 const SHOWN: u64 = 3;
 
-/// Runs the program of that console, and ends the process: 0 if nothing differs, else 1; 2 on bad usage.
+/// Runs the program of that console, and ends the process: 0 if nothing differs, else 1; 2 on bad usage, or without the
+/// chart's files.
 pub fn main(console: Box<dyn Console + Send>) {
-    let options = Options::read(std::env::args().skip(1)).unwrap_or_else(|message| {
+    let (options, carried) = asked_for().unwrap_or_else(|message| {
         eprintln!("{message}");
         std::process::exit(2)
     });
@@ -34,7 +40,7 @@ pub fn main(console: Box<dyn Console + Send>) {
         if options.vectors {
             return vectors::write();
         }
-        let mut comparison = Comparison { console, options, report: Report::default() };
+        let mut comparison = Comparison { console, options, carried, report: Report::default() };
         comparison.all()
     };
     let thread = std::thread::Builder::new().stack_size(STACK).spawn(run);
@@ -42,9 +48,16 @@ pub fn main(console: Box<dyn Console + Send>) {
     std::process::exit(if agreed { 0 } else { 1 })
 }
 
+fn asked_for() -> Result<(Options, Vec<Entry>), String> {
+    let options = Options::read(std::env::args().skip(1))?;
+    let carried = carried::read(&options.crates)?;
+    Ok((options, carried))
+}
+
 struct Comparison {
     console: Box<dyn Console + Send>,
     options: Options,
+    carried: Vec<Entry>,
     report: Report,
 }
 
@@ -53,6 +66,7 @@ impl Comparison {
         self.exhaustive("rows", exhaustive::rows::each);
         self.exhaustive("trees", exhaustive::trees::each);
         self.exhaustive("calls", exhaustive::calls::each);
+        self.chart();
         self.random("random", self.options.random, |random, _| random::small::program(random));
         self.random("limits", self.options.limits, random::limits::program);
         self.report.print();
@@ -71,6 +85,29 @@ impl Comparison {
         let (mut line, mut progress) = (Line::new(set), Progress::new(set));
         each(&mut |program| self.one(&mut line, &mut progress, None, program));
         progress.end();
+        self.report.add(line);
+    }
+
+    /// The chart's forms in order, each by every row that shares it. One that differs is told by the first such row.
+    fn chart(&mut self) {
+        if !self.wanted("chart") {
+            return;
+        }
+        let (forms, mut line) = (chart::forms(), Line::new("chart"));
+        assert_eq!(forms.len(), ENTRIES);
+        for ((form, shapes), &entry) in forms.iter().zip(&self.carried) {
+            let said: Vec<Said> = shapes.iter().map(|shape| Said::of(&*self.console, shape, entry)).collect();
+            line.programs += said.len() as u64;
+            self.report.chart.push(said[0].digit());
+            let agreed = said.iter().filter_map(Said::agreed);
+            agreed.for_each(|answer| self.report.seen(&mut line, Query::Check, answer));
+            if let Some(differs) = said.iter().find(|said| said.agreed().is_none()) {
+                line.differ += 1;
+                if line.differ == 1 || !self.options.first {
+                    println!("DIFFERS\n{form}: {differs}\n");
+                }
+            }
+        }
         self.report.add(line);
     }
 

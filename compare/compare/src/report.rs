@@ -16,6 +16,8 @@ pub struct Report {
     lines: Vec<Line>,
     /// How often each kind of answer was seen, on both sides.
     answers: BTreeMap<String, u64>,
+    /// quil-rs's verdicts, a digit an entry.
+    pub chart: String,
 }
 
 impl Line {
@@ -59,8 +61,17 @@ impl Report {
         for (kind, count) in &self.answers {
             println!("  {kind:<44}{count:>10}");
         }
+        if !self.chart.is_empty() {
+            print_chart(&self.chart);
+        }
         println!("\ndiffer {}", self.differ());
     }
+}
+
+fn print_chart(chart: &str) {
+    println!("\nthe chart's verdicts, by quil-rs:\n{chart}");
+    let counts = ['0', '1', '2', '3', '4'].map(|digit| chart.matches(digit).count().to_string());
+    println!("forms by verdict, 0 to 4: {}", counts.join(", "));
 }
 
 fn print_line(line: &Line) {

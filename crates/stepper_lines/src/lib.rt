@@ -6,4 +6,5 @@ pub mod print;
 pub mod program;
 pub mod quil;
 pub mod refusal;
+pub mod type_error;
 pub mod view;

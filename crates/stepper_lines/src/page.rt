@@ -4,6 +4,7 @@ use crate::print::number;
 use crate::print::text;
 use crate::refusal::cause;
 use crate::refusal::mender;
+use crate::type_error;
 use tables::refusal::ARGUMENT_ERRORS;
 use tables::refusal::CONDITION_NOT_BIT;
 use tables::refusal::FOREIGN_POSITION;
@@ -49,6 +50,22 @@ fn calls(refusal: u64) {
     );
 }
 
+fn type_errors() {
+    text(b"- Type error 1, ");
+    type_error::cause(1);
+    text(b"; 2, ");
+    type_error::cause(2);
+    text(b"; 3, ");
+    type_error::cause(3);
+    text(b"; 4, ");
+    type_error::cause(4);
+    text(
+        b": `examples/type-error-1.tables` to `-4.tables`\n\
+        - A frame's check ends at the first node that fails, and the console tells how many it looked at: `examples/frame-left.tables`\n\
+        - What the type check says of every form of a row: the chart, `docs/chart.html`, or `./console chart`\n",
+    );
+}
+
 // Each kind of place, of type error and of argument error has an example of its own, each cause of 19 to 24, a frame's left operand, and a journal that is long enough.
 fn more(refusal: u64) {
     match refusal {
@@ -57,10 +74,7 @@ fn more(refusal: u64) {
             b"- An unused word that is not 0: `examples/refusal-2-unused.tables`; a range outside its table: `-range.tables`; not exactly one tree: `-tree.tables`\n",
         ),
         NAME_TWICE => text(b"- Two externs: `examples/refusal-3-externs.tables`\n"),
-        TYPE_ERROR => text(
-            b"- Type error 1, an operand is not declared; 2, kinds differ; 3, a frame needs a real value; 4, the operator does not take the operand: `examples/type-error-1.tables` to `-4.tables`\n\
-            - A frame's check ends at the first node that fails, and the console tells how many it looked at: `examples/frame-left.tables`\n",
-        ),
+        TYPE_ERROR => type_errors(),
         ARGUMENT_ERRORS => text(
             b"- Argument error 1, not declared; 2, another vector; 3, another kind of scalar; 4, no vector; 5, an immediate for the return; 6, an immediate for a mutable parameter: `examples/argument-error-1.tables` to `-6.tables`\n",
         ),

@@ -3,9 +3,10 @@ ghost use mathlib.Core.Path.{_≡_};
 ghost use Prim.Native.Nat.{_<_};
 ghost use Rattle.verdict_table.specs.Place.{blockOf};
 ghost use Rattle.tables.specs.Family.{frame};
+use tables::family::FRAME;
 
 // Families 0 to 7 have a block.
-pub const FAMILIES: usize = 8;
+pub const FAMILIES: usize = FRAME as usize;
 
 // An operand that is a name: undeclared, or of one of the four kinds. The first operand always is.
 pub const NAMES: usize = 5;

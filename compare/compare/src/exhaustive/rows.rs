@@ -12,10 +12,20 @@ const REALS: [f64; 5] = [0.0, -0.0, 1.5, f64::INFINITY, f64::NAN];
 
 /// The source: a literal, a reference to a choice of region, or none.
 #[derive(Clone, Copy)]
-enum Source {
+pub enum Source {
     Literal(u64, u64),
     Reference(u64),
     None,
+}
+
+/// A row but for its names and indices: each operand by its choice of region.
+#[derive(Clone, Copy)]
+pub struct Shape {
+    pub family: u64,
+    pub operator: u64,
+    pub first: u64,
+    pub second: Option<u64>,
+    pub source: Source,
 }
 
 fn sources(family: u64) -> Vec<Source> {
@@ -32,19 +42,31 @@ fn sources(family: u64) -> Vec<Source> {
     sources
 }
 
-pub fn each(visit: &mut dyn FnMut(Program)) {
+fn seconds(family: u64) -> Vec<Option<u64>> {
+    match family {
+        1 | 5 | 6 | 7 => CHOICES.map(Some).to_vec(),
+        _ => vec![None],
+    }
+}
+
+/// Every shape of families 0 to 7.
+pub fn shapes() -> Vec<Shape> {
+    let mut shapes = Vec::new();
     for family in 0..8 {
-        let seconds: &[u64] = if matches!(family, 1 | 5 | 6 | 7) { &CHOICES } else { &[UNDECLARED] };
         for operator in 0..OPERATORS[family as usize] {
-            for &first in &CHOICES {
-                for &second in seconds {
-                    for source in sources(family) {
-                        each_naming(family, operator, first, second, source, visit);
-                    }
+            for first in CHOICES {
+                for second in seconds(family) {
+                    let shape = |source| Shape { family, operator, first, second, source };
+                    shapes.extend(sources(family).into_iter().map(shape));
                 }
             }
         }
     }
+    shapes
+}
+
+pub fn each(visit: &mut dyn FnMut(Program)) {
+    shapes().iter().for_each(|shape| each_naming(shape, visit));
     for operator in 0..2 {
         visit(Program { rows: vec![Row::Plain([10, operator, 0, 0, 0, 0, 3, 0, 0])], ..Program::default() });
     }
@@ -95,7 +117,8 @@ fn with_neg(mut program: Program, name: u64, kind: u64) -> Program {
 /// Every pair of operands, under each way of naming them; alone, and with a row after it that passes or fails.
 fn each_convert(visit: &mut dyn FnMut(Program)) {
     for (first, source) in CHOICES.iter().flat_map(|&first| CHOICES.iter().map(move |&source| (first, source))) {
-        each_naming(16, 0, first, UNDECLARED, Source::Reference(source), &mut |program| {
+        let source = Source::Reference(source);
+        each_naming(&Shape { family: 16, operator: 0, first, second: None, source }, &mut |program| {
             visit(program.clone());
             for kind in [1, 2] {
                 visit(with_neg(program.clone(), 2000, kind));
@@ -105,50 +128,64 @@ fn each_convert(visit: &mut dyn FnMut(Program)) {
 }
 
 /// The row under each way of naming its operands: three stocks of names, and operands of one choice with one name.
-fn each_naming(family: u64, operator: u64, first: u64, second: u64, source: Source, visit: &mut dyn FnMut(Program)) {
-    let third = match source {
-        Source::Reference(choice) => Some(choice),
-        _ => None,
-    };
-    let has_second = matches!(family, 1 | 5 | 6 | 7);
+fn each_naming(shape: &Shape, visit: &mut dyn FnMut(Program)) {
+    let (first, second, third) = (Some(shape.first), shape.second, shape.third());
     for names in NAMES {
         for shared in 0..5 {
-            let same = |a: u64, b: Option<u64>| b == Some(a);
             let [a, mut b, mut c] = names;
             match shared {
                 0 => {}
-                1 if has_second && first == second => b = a,
-                2 if same(first, third) => c = a,
-                3 if has_second && same(second, third) => c = b,
-                4 if has_second && first == second && same(first, third) => (b, c) = (a, a),
+                1 if first == second => b = a,
+                2 if first == third => c = a,
+                3 if second.is_some() && second == third => c = b,
+                4 if first == second && first == third => (b, c) = (a, a),
                 _ => continue,
             }
-            let mut operands = vec![(a, first)];
-            operands.extend(has_second.then_some((b, second)));
-            operands.extend(third.map(|choice| (c, choice)));
-            let words = |index| row(family, operator, [a, b, c], index, has_second, source);
             for index in INDICES {
                 for decoys in [false, true] {
-                    visit(program(&operands, decoys, words(index)));
+                    visit(shape.program([a, b, c], index, decoys));
                 }
             }
         }
     }
 }
 
-/// A region operand's index stays 0.
-fn row(family: u64, operator: u64, names: [u64; 3], index: u64, has_second: bool, source: Source) -> [u64; 9] {
-    let [a, b, c] = names;
-    let (second, second_index) = if has_second { (b, index) } else { (0, 0) };
-    let first_index = if family == 7 { 0 } else { index };
-    let second_index = if family == 6 { 0 } else { second_index };
-    let source = match source {
-        Source::Literal(form, bits) => [form, bits, 0],
-        Source::Reference(_) => [2, c, index],
-        Source::None => [3, 0, 0],
-    };
-    let [form, x, y] = source;
-    [family, operator, a, first_index, second, second_index, form, x, y]
+impl Shape {
+    /// The source's choice, where it is a reference.
+    fn third(&self) -> Option<u64> {
+        match self.source {
+            Source::Reference(choice) => Some(choice),
+            _ => None,
+        }
+    }
+
+    /// Each operand with a name of its own.
+    pub fn separate(&self) -> Program {
+        self.program(NAMES[0], INDICES[0], false)
+    }
+
+    fn program(&self, names: [u64; 3], index: u64, decoys: bool) -> Program {
+        let [a, b, c] = names;
+        let mut operands = vec![(a, self.first)];
+        operands.extend(self.second.map(|choice| (b, choice)));
+        operands.extend(self.third().map(|choice| (c, choice)));
+        program(&operands, decoys, self.words(names, index))
+    }
+
+    /// A region operand's index stays 0.
+    fn words(&self, [a, b, c]: [u64; 3], index: u64) -> [u64; 9] {
+        let Shape { family, operator, source, .. } = *self;
+        let (second, second_index) = if self.second.is_some() { (b, index) } else { (0, 0) };
+        let first_index = if family == 7 { 0 } else { index };
+        let second_index = if family == 6 { 0 } else { second_index };
+        let source = match source {
+            Source::Literal(form, bits) => [form, bits, 0],
+            Source::Reference(_) => [2, c, index],
+            Source::None => [3, 0, 0],
+        };
+        let [form, x, y] = source;
+        [family, operator, a, first_index, second, second_index, form, x, y]
+    }
 }
 
 /// Declares the operands; with decoys, other names of every kind stand before them.
