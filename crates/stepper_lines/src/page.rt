@@ -62,7 +62,7 @@ fn type_errors() {
     text(
         b": `examples/type-error-1.tables` to `-4.tables`\n\
         - A frame's check ends at the first node that fails, and the console tells how many it looked at: `examples/frame-left.tables`\n\
-        - What the type check says of every form of a row: the chart, `docs/chart.html`, or `./console chart`\n",
+        - What the type check says of every form of a row, frames apart: the chart, `docs/chart.html`, or `./console chart`\n",
     );
 }
 
