@@ -58,6 +58,7 @@ fn cells() {
         .a { background: #004d4d; color: #fff; font-weight: 700 }\n\
         /* Where fills are not printed a frame is left. */\n\
         td.a { outline: .18rem solid #004d4d; outline-offset: -.22rem }\n\
+        .u { background: #f2f2f2 }\n\
         .d { background: #ffd98c }\n\
         .r { background: #bcdcf5 }\n\
         .o { background: #cfbde0 }\n",
