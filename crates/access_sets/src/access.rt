@@ -14,7 +14,7 @@ use tables::refusal::{BUFFER_SIZE, EXTERN_NOT_FOUND};
 use tables::rows::{Argument, Instruction, argument_at, parameter_at};
 
 // Which of the two sets.
-#[derive(Drop)]
+#[derive(Clone, Copy)]
 pub enum Access {
     Read,
     Write,

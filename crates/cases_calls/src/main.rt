@@ -1,4 +1,6 @@
 // Plays the script on standard input through the C forms of the public calls, and writes what each answers and changes.
+#![tactic(auto)]
+
 mod call;
 mod kept;
 mod lent;

@@ -1,5 +1,7 @@
 // Reads standard input by lines. A word 0x.. is written as a REAL's text; any other word is read as a short decimal, and its word and text are written.
 // Of two words the first says which way the second is converted, `to-real` an INTEGER, `to-integer` a REAL's word; the result's word is written.
+#![tactic(auto)]
+
 use libc::{STDIN_FILENO, STDOUT_FILENO};
 use real_text::decimal::read_decimal;
 use real_text::text::text_of;

@@ -1,4 +1,6 @@
 // The chart of verdicts as a page, as `./console chart html` writes it.
+#![tactic(auto)]
+
 fn main() {
     verdict_chart::page::page();
 }

@@ -1,4 +1,6 @@
 // The chart of verdicts as text, as `./console chart` writes it.
+#![tactic(auto)]
+
 fn main() {
     verdict_chart::text::chart();
 }

@@ -1,4 +1,6 @@
 // The public calls for C, as console.h declares them. Each returns 0 or the refusal's number, and writes an out-array only where the header says so.
+#![tactic(auto)]
+
 pub mod access;
 pub mod back;
 pub mod check;

@@ -12,7 +12,7 @@ use tables::refusal::{ARGUMENT_COUNT, ARGUMENT_ERRORS, EXTERN_NOT_FOUND};
 use tables::rows::{Instruction, argument_at, extern_at, parameter_at};
 
 // A CALL with its extern's signature.
-#[derive(Drop)]
+#[derive(Clone, Copy)]
 pub struct ExternCall {
     pub return_kind: u64,
     pub first_parameter: usize,

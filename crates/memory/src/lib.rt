@@ -1,5 +1,7 @@
 // The memory references of an expression, handed out one after the other: quil-rs's iterator `MemoryReferences`, whose stack is a place in the parent-first node rows.
 // Translated from quil-rs, program/memory.rs (Apache-2.0), and changed: see NOTICE.
+#![tactic(auto)]
+
 pub mod batch;
 
 ghost use Rattle.std.specs.Prelude.{◌≡◌, true};

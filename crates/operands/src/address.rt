@@ -13,7 +13,7 @@ use tables::source;
 use words::integer;
 
 // The regions that a row names; 0 for an operand that is no name.
-#[derive(Drop)]
+#[derive(Clone, Copy)]
 pub struct NamedRegions {
     pub first: usize,
     pub second: usize,

@@ -1,4 +1,6 @@
 // Which operand kinds have a rule, and the result of each operator; CONVERT apart. The loader lets no other operator pass: the rest arms are never reached.
+#![tactic(auto)]
+
 pub mod convert;
 
 ghost use Rattle.std.specs.Prelude.{◌≡◌};

@@ -19,7 +19,7 @@ const MOST_DIGITS: u64 = 15;
 const MOST_TENS: u64 = 22;
 
 // The number so far, its digits, those after the point, how many points, and whether anything else was seen. The counts are at most the text's length; the number is read only where its digits are few.
-#[derive(Drop)]
+#[derive(Clone, Copy)]
 struct Seen {
     number: u64,
     digits: u64,

@@ -11,7 +11,7 @@ pub const POINT: usize = 1000;
 const HIDDEN: u64 = 0x10_0000_0000_0000;
 
 // Digits as bytes, the first not 0, and the point's place.
-#[derive(Drop)]
+#[derive(Clone, Copy)]
 pub struct Decimal {
     pub digits: [u8; 17],
     pub count: usize,

@@ -1,4 +1,6 @@
 // REAL words as decimal text, and short decimals as REAL words.
+#![tactic(auto)]
+
 pub mod decimal;
 pub mod digits;
 pub mod limbs;

@@ -1,4 +1,6 @@
 // Texts of numbers and signs, for the programs that read one.
+#![tactic(auto)]
+
 pub mod fill;
 pub mod line;
 pub mod number;

@@ -2,7 +2,7 @@
 ghost use Rattle.std.specs.Prelude.{◌≡◌, ◌<◌, ◌≤◌, length, ◌≢◌};
 
 // The text's end, a decimal number, a number past 2^64 - 1, or any other byte.
-#[derive(Drop)]
+#[derive(Clone, Copy)]
 pub enum Found {
     End,
     Number(u64),
@@ -11,7 +11,7 @@ pub enum Found {
 }
 
 // A token, and the place after it.
-#[derive(Drop)]
+#[derive(Clone, Copy)]
 pub struct Token {
     pub found: Found,
     pub next: usize,

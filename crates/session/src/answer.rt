@@ -18,7 +18,7 @@ pub enum StepAnswer {
 }
 
 // Why a run stopped: its allowance was taken, it came to the end or before a CALL, or the next step is refused by its number.
-#[derive(Drop)]
+#[derive(Clone, Copy)]
 pub enum Stop {
     Allowance,
     End,

@@ -1,4 +1,6 @@
 // The console in a terminal: keys, one a line, and what each does. It only shows; the work is the public calls'.
+#![tactic(auto)]
+
 mod about;
 mod explain;
 mod keys;

@@ -1,4 +1,6 @@
 // The public calls on the tables as the terminal holds them; by them a step, a run, the type check's verdict in words, the first CALL that does not resolve, how many nodes of a frame were looked at, how long a journal is enough.
+#![tactic(auto)]
+
 pub mod bad_call;
 pub mod length;
 pub mod looked;

@@ -5,7 +5,7 @@ use stepper_lines::print::{style, text};
 use stepper_tables::word::{Written, integer};
 
 // What a key asks for. The empty line is forward; a run has its allowance, so many steps, or none that can be read.
-#[derive(Drop)]
+#[derive(Clone, Copy)]
 pub enum Key {
     Forward,
     Run(u64),

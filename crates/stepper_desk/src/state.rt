@@ -10,7 +10,7 @@ pub const JOURNAL_WORDS: usize = 6150;
 pub const TEXT_BYTES: usize = 65536;
 
 // Whether there is a file, and how open answered.
-#[derive(Drop)]
+#[derive(Clone, Copy)]
 pub enum State {
     NoFile,
     Opened,
@@ -18,7 +18,7 @@ pub enum State {
 }
 
 // How long a journal is enough for every order of keys: so many entries; none is sure to be, where the rows count more than a journal has or one of them is a jump; untold of a program that is turned down whatever is lent.
-#[derive(Drop)]
+#[derive(Clone, Copy)]
 pub enum Enough {
     Entries(usize),
     TooMany(usize),
@@ -27,7 +27,7 @@ pub enum Enough {
 }
 
 // The file's length, the tables' lengths in words and those of memory and journal, how long a journal is enough, the position, how open answered, and whether keys are still read.
-#[derive(Drop)]
+#[derive(Clone, Copy)]
 pub struct Desk {
     pub text: usize,
     pub lengths: [usize; TABLES],

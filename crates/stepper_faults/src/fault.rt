@@ -2,7 +2,7 @@
 use stepper_words::heading::Table;
 
 // A row, and where its words begin in its table.
-#[derive(Drop)]
+#[derive(Clone, Copy)]
 pub struct Row {
     pub table: Table,
     pub number: usize,
@@ -10,7 +10,7 @@ pub struct Row {
 }
 
 // Rows of a table that a row asks for, and how many the table has.
-#[derive(Drop)]
+#[derive(Clone, Copy)]
 pub struct Range {
     pub first: u64,
     pub count: u64,
@@ -42,7 +42,7 @@ pub enum Conversion {
     NoSource(u64),
 }
 
-#[derive(Drop)]
+#[derive(Clone, Copy)]
 pub enum Where {
     // The table, its words, and the words of a row.
     NotWholeRows(Table, usize, usize),

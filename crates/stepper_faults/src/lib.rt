@@ -1,4 +1,6 @@
 // Where a refusal 1, 2, 3, 20, 21 or 22 lies in the tables, and the same in words.
+#![tactic(auto)]
+
 pub mod allowed;
 pub mod convert;
 pub mod declared;

@@ -7,7 +7,7 @@ use stepper_words::heading::Table;
 use tables::rows::{INSTRUCTION_WIDTH, instruction_at};
 
 // What is looked for in each row.
-#[derive(Drop)]
+#[derive(Clone, Copy)]
 enum Look {
     LabelTwice,
     Target,

@@ -1,4 +1,6 @@
 // What the console writes of values, rows and refusals, as text for any terminal or pipe.
+#![tactic(auto)]
+
 pub mod help;
 pub mod line;
 pub mod page;

@@ -36,7 +36,7 @@ const NAME_END: usize = 6;
 const HALF: u64 = 0x8000_0000_0000_0000;
 
 // The bytes so far, how many of them are whole items, up to which column items are kept, whether long names are shortened, and whether the next item is joined to what stands before it.
-#[derive(Drop)]
+#[derive(Clone, Copy)]
 pub struct Line {
     pub bytes: [u8; COLUMNS],
     pub length: usize,

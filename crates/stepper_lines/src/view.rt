@@ -1,5 +1,5 @@
 // How things are shown: the names that have a text, REAL words as bits, all rows and cells, any cells, colours, keys echoed.
-#[derive(Drop)]
+#[derive(Clone, Copy)]
 pub struct View {
     pub names: usize,
     pub bits: bool,

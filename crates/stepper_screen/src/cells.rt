@@ -4,14 +4,14 @@ use operands::address::region_origin;
 use tables::cells::{Cells, cell_count};
 use tables::rows::{REGION_WIDTH, region_at};
 
-#[derive(Drop)]
+#[derive(Clone, Copy)]
 pub struct Cell {
     pub kind: u64,
     pub word: u64,
 }
 
 // The cells of a region: the first, and how many.
-#[derive(Drop)]
+#[derive(Clone, Copy)]
 pub struct Span {
     pub first: usize,
     pub count: u64,

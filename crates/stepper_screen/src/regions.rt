@@ -16,7 +16,7 @@ const LINES: usize = 10;
 const LINES_UNOPENED: usize = 3;
 
 // Which regions a look through the table shows.
-#[derive(Drop)]
+#[derive(Clone, Copy)]
 enum Rank {
     Any,
     Changed,
@@ -25,7 +25,7 @@ enum Rank {
 }
 
 // A look through the table: lines left, and regions left out so far.
-#[derive(Drop)]
+#[derive(Clone, Copy)]
 struct Look {
     rank: Rank,
     lines: usize,

@@ -9,7 +9,7 @@ use stepper_words::place::{Place, ROW_WORDS, place_of};
 use words::kind::REAL;
 
 // Why a line is not taken. A row of another number of words than its table's has the table.
-#[derive(Drop)]
+#[derive(Clone, Copy)]
 pub enum Trouble {
     Word(Fault),
     RowOf(Table),
@@ -23,7 +23,7 @@ pub enum Trouble {
     LooseWords,
 }
 
-#[derive(Drop)]
+#[derive(Clone, Copy)]
 pub enum Outcome {
     Taken,
     Not(Trouble),

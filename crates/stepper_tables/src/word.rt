@@ -7,7 +7,7 @@ use stepper_words::place::Place;
 use stepper_words::vocabulary::{Operation, is_reserved, number_of, operation_of};
 
 // Why a word is not taken. A place says what is needed there; a mnemonic in small letters has its family and operator.
-#[derive(Drop)]
+#[derive(Clone, Copy)]
 pub enum Fault {
     NoWord,
     TooLarge,

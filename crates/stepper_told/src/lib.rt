@@ -1,4 +1,6 @@
 // What is told beside the screen: errors, where tables are at fault, a CALL's arguments; and the reply to a CALL.
+#![tactic(auto)]
+
 pub mod errors;
 pub mod refused;
 pub mod reply;

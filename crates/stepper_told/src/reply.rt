@@ -25,7 +25,7 @@ pub enum Reply {
 }
 
 // What a line gave: a row, nothing, the reply's end, or the input's.
-#[derive(Drop)]
+#[derive(Clone, Copy)]
 enum Asked {
     Row,
     Nothing,
@@ -54,7 +54,7 @@ impl Asked {
 }
 
 // An argument's kind, where the CALL has that argument.
-#[derive(Drop)]
+#[derive(Clone, Copy)]
 enum Kind {
     Of(u64),
     Absent,

@@ -8,7 +8,7 @@ use tables::rows::{
     ARGUMENT_WIDTH, EXTERN_WIDTH, INSTRUCTION_WIDTH, NODE_WIDTH, PARAMETER_WIDTH, REGION_WIDTH,
 };
 
-#[derive(Drop)]
+#[derive(Clone, Copy)]
 pub enum Table {
     Regions,
     Externs,
@@ -19,7 +19,7 @@ pub enum Table {
 }
 
 // What a line is by its first word: a table's heading; what is lent; what a foreign writer leaves; words that need not be a whole row; or, with no heading, a row.
-#[derive(Drop)]
+#[derive(Clone, Copy)]
 pub enum Heading {
     Of(Table),
     Memory,

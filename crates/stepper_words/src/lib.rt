@@ -1,4 +1,6 @@
 // The words of the text files: lists of words, names, headings, and what stands at each place of a row.
+#![tactic(auto)]
+
 pub mod heading;
 pub mod list;
 pub mod names;

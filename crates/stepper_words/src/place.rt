@@ -9,7 +9,7 @@ pub const ROW_WORDS: usize = 16;
 pub const LAST_FAMILY: u64 = family::CONVERT;
 
 // A label is a name, after `@`. A whole is an integer: a length, an index, a row, a count or an integer literal.
-#[derive(Drop)]
+#[derive(Clone, Copy)]
 pub enum Place {
     Name,
     Label,

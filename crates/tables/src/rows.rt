@@ -28,7 +28,7 @@ pub const ARGUMENT_LIMIT: usize = 1024;
 
 pub const INSTRUCTION_LIMIT: usize = 512;
 
-#[derive(Drop)]
+#[derive(Clone, Copy)]
 pub struct Region {
     pub name: u64,
     pub kind: u64,
@@ -59,7 +59,7 @@ pub struct Node {
     pub second: u64,
 }
 
-#[derive(Drop)]
+#[derive(Clone, Copy)]
 pub struct Argument {
     pub form: u64,
     pub first: u64,
@@ -67,7 +67,7 @@ pub struct Argument {
 }
 
 // The first and second operand are a name and an index; the source is a literal's bits and 0, or a name and an index.
-#[derive(Drop)]
+#[derive(Clone, Copy)]
 pub struct Instruction {
     pub family: u64,
     pub operator: u64,

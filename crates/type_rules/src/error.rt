@@ -6,7 +6,7 @@ ghost use Rattle.type_rules.specs.Judgement.{undefined_memory_reference, data_ty
 use crate::code::{ABSENT, DATA_TYPE, NO_SPOT, OPERAND, REAL_REQUIRED, UNDEFINED};
 
 // 01's six words.
-#[derive(Drop)]
+#[derive(Clone, Copy)]
 pub struct TypeError {
     pub kind: u64,
     pub row: u64,

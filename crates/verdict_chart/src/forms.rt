@@ -10,7 +10,7 @@ use verdict_table::table::{FORMS, verdict_at};
 pub const VERDICT_COUNT: u8 = OPERAND as u8 + 1;
 
 // From `start` up to `end`.
-#[derive(Drop)]
+#[derive(Clone, Copy)]
 pub struct Span {
     pub start: usize,
     pub end: usize,

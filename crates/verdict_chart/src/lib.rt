@@ -1,4 +1,6 @@
 // The wall chart of verdicts as text and as a page, and the report of its counts.
+#![tactic(auto)]
+
 pub mod forms;
 pub mod label;
 pub mod layout;

@@ -28,7 +28,7 @@ const HEADS: u64 = 3;
 const LINES: u64 = 8;
 
 // What a row's cells hold: the letters above the columns, or the marks of the forms from a place on.
-#[derive(Drop)]
+#[derive(Clone, Copy)]
 enum Cells {
     Letters,
     Marks(usize),

@@ -1,4 +1,6 @@
 // Writes the wall chart's verdicts, worked out form by form from the check of a row: 610 digits and a line feed.
+#![tactic(auto)]
+
 mod regions;
 mod row;
 mod verdict;

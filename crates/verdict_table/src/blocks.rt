@@ -20,7 +20,7 @@ const SOURCES: [usize; FAMILIES] = [7, 7, 6, 1, 7, 1, 5, 7];
 
 const OPERATORS: [usize; FAMILIES] = [1, 1, 1, 2, 1, 1, 1, 1];
 
-#[derive(Drop)]
+#[derive(Clone, Copy)]
 pub struct Block {
     pub start: usize,
     pub seconds: usize,
