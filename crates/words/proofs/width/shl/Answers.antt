@@ -1,0 +1,12 @@
+use Rattle.std.proofs.Common.{sym, ◌∙◌}
+use Rattle.words.specs.Width.{shift_left}
+use Rattle.words.proofs.Shifts.{count_negative, count_kept}
+use Rattle.words.proofs.width.shl.Goals as goal
+
+pub returns-then-is_negative : goal.returns-then-is_negative
+unfolding shift_left
+returns-then-is_negative c = count_negative _ _ (sym c.is_negative.ensures ∙ c.if-is_negative.true)
+
+pub returns : goal.returns
+unfolding shift_left
+returns c = count_kept _ _ _ (sym c.is_negative.ensures ∙ c.if-is_negative.false) c.shl_at.ensures
