@@ -1,0 +1,7 @@
+use mathlib.Core.Path.{refl}
+use Rattle.tables.specs.Marks.{mark_of}
+use Rattle.tables.proofs.lookup.mark.Goals as goal
+
+pub returns : goal.returns
+unfolding mark_of
+returns c = refl
