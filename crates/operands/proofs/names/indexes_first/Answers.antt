@@ -1,0 +1,53 @@
+use mathlib.Core.Path.{ap}
+use Rattle.tables.specs.Cases.{case_of}
+use Rattle.tables.specs.Names.{Operands, unused, operands, operands_by_family, operands_of, has_index, indexes_first}
+use Rattle.tables.proofs.Cases.{other_arm}
+use Rattle.operands.proofs.names.indexes_first.Goals as goal
+
+pub returns-in-0 : goal.returns-in-0
+unfolding indexes_first operands_of case_of
+returns-in-0 c = rw c.in-0.is
+
+pub returns-in-1 : goal.returns-in-1
+unfolding indexes_first operands_of case_of
+returns-in-1 c = rw c.in-1.is
+
+pub returns-in-2 : goal.returns-in-2
+unfolding indexes_first operands_of case_of
+returns-in-2 c = rw c.in-2.is
+
+pub returns-in-3 : goal.returns-in-3
+unfolding indexes_first operands_of case_of
+returns-in-3 c = rw c.in-3.is
+
+pub returns-in-4 : goal.returns-in-4
+unfolding indexes_first operands_of case_of
+returns-in-4 c = rw c.in-4.is
+
+pub returns-in-5 : goal.returns-in-5
+unfolding indexes_first operands_of case_of
+returns-in-5 c = rw c.in-5.is
+
+pub returns-in-6 : goal.returns-in-6
+unfolding indexes_first operands_of case_of
+returns-in-6 c = rw c.in-6.is
+
+pub returns-in-7 : goal.returns-in-7
+unfolding indexes_first operands_of case_of
+returns-in-7 c = rw c.in-7.is
+
+pub returns-in-12 : goal.returns-in-12
+unfolding indexes_first operands_of case_of
+returns-in-12 c = rw c.in-12.is
+
+pub returns-in-13 : goal.returns-in-13
+unfolding indexes_first operands_of case_of
+returns-in-13 c = rw c.in-13.is
+
+pub returns-in-16 : goal.returns-in-16
+unfolding indexes_first operands_of case_of
+returns-in-16 c = rw c.in-16.is
+
+pub returns-in_default : goal.returns-in_default
+unfolding indexes_first operands_of
+returns-in_default c = ap (λ (o : Operands). has_index o.first) (other_arm operands_by_family (operands unused unused) _ c.in_default.in_default-own.rest)
