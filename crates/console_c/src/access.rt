@@ -5,8 +5,7 @@ ghost use Rattle.console_c.specs.Access.{accessed_words, console_access};
 use access_sets::access::AccessAnswer;
 use console::access::access;
 
-#[unsafe(no_mangle)]
-pub extern "C" fn console_access(
+pub fn console_access(
     regions: &[u64],
     externs: &[u64],
     parameters: &[u64],

@@ -6,8 +6,7 @@ use console::check::{CheckAnswer, check};
 use console_words::error::write_error;
 use tables::refusal::TYPE_ERROR;
 
-#[unsafe(no_mangle)]
-pub extern "C" fn console_check(
+pub fn console_check(
     regions: &[u64],
     externs: &[u64],
     parameters: &[u64],

@@ -6,8 +6,7 @@ use console_session::forward::forward;
 use console_words::position::{position_in, write_position};
 use session::answer::StepAnswer;
 
-#[unsafe(no_mangle)]
-pub extern "C" fn console_forward(
+pub fn console_forward(
     regions: &[u64],
     externs: &[u64],
     parameters: &[u64],

@@ -6,8 +6,7 @@ use console::frame::{FrameAnswer, frame};
 use console_words::error::write_error;
 use tables::refusal::TYPE_ERROR;
 
-#[unsafe(no_mangle)]
-pub extern "C" fn console_frame(
+pub fn console_frame(
     regions: &[u64],
     externs: &[u64],
     parameters: &[u64],

@@ -6,8 +6,7 @@ use console_words::error::write_error;
 use session_length::length::{LengthAnswer, journal_length};
 use tables::refusal::TYPE_ERROR;
 
-#[unsafe(no_mangle)]
-pub extern "C" fn console_journal_length(
+pub fn console_journal_length(
     regions: &[u64],
     externs: &[u64],
     parameters: &[u64],

@@ -1,4 +1,4 @@
-// The public calls for C, as console.h declares them. Each returns 0 or the refusal's number, and writes an out-array only where the header says so.
+// The public calls for C, as console.h declares them and console_c_c exports them. Each returns 0 or the refusal's number, and writes an out-array only where the header says so.
 #![tactic(auto)]
 
 pub mod access;

@@ -8,8 +8,7 @@ use console_words::position::write_position;
 use session::answer::OpenAnswer;
 use tables::refusal::TYPE_ERROR;
 
-#[unsafe(no_mangle)]
-pub extern "C" fn console_open(
+pub fn console_open(
     regions: &[u64],
     externs: &[u64],
     parameters: &[u64],

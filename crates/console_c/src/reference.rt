@@ -23,8 +23,7 @@ fn write_found(found: &mut [u64; 3], next: Next)
     }
 }
 
-#[unsafe(no_mangle)]
-pub extern "C" fn console_reference(
+pub fn console_reference(
     nodes: &[u64],
     first: u64,
     node_count: u64,

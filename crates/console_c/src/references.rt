@@ -3,8 +3,7 @@ ghost use Rattle.console_c.specs.References.{listed_words, console_references};
 
 use console::references::{ReferencesAnswer, references};
 
-#[unsafe(no_mangle)]
-pub extern "C" fn console_references(
+pub fn console_references(
     nodes: &[u64],
     first: u64,
     node_count: u64,

@@ -6,8 +6,7 @@ use console::resolve::resolve;
 use extern_call::rows::ResolveAnswer;
 use tables::refusal::ARGUMENT_ERRORS;
 
-#[unsafe(no_mangle)]
-pub extern "C" fn console_resolve(
+pub fn console_resolve(
     regions: &[u64],
     externs: &[u64],
     parameters: &[u64],

@@ -7,8 +7,7 @@ use console_words::position::{position_in, write_position};
 use console_words::ran::write_ran;
 use session::answer::RunAnswer;
 
-#[unsafe(no_mangle)]
-pub extern "C" fn console_run(
+pub fn console_run(
     regions: &[u64],
     externs: &[u64],
     parameters: &[u64],

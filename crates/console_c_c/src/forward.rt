@@ -1,0 +1,32 @@
+ghost use Rattle.std.specs.Prelude.{◌≡◌};
+ghost use Rattle.tables.specs.Tables.{tables_of};
+ghost use Rattle.console_c.specs.Forward.{forwarded_words, console_forward};
+
+#[unsafe(no_mangle)]
+pub extern "C" fn console_forward(
+    regions: &[u64],
+    externs: &[u64],
+    parameters: &[u64],
+    nodes: &[u64],
+    arguments: &[u64],
+    instructions: &[u64],
+    memory: &mut [u64],
+    journal: &mut [u64],
+    position: &mut [u64; 3],
+    reply: &[u64],
+) -> u64
+    ensures { forwarded_words result memory.new journal.new position.new ≡ console_forward (tables_of regions.now externs.now parameters.now nodes.now arguments.now instructions.now) memory.old journal.old position.old reply.now }
+{
+    console_c::forward::console_forward(
+        regions,
+        externs,
+        parameters,
+        nodes,
+        arguments,
+        instructions,
+        memory,
+        journal,
+        position,
+        reply,
+    )
+}

@@ -1,0 +1,28 @@
+ghost use Rattle.std.specs.Prelude.{◌≡◌};
+ghost use Rattle.tables.specs.Tables.{tables_of};
+ghost use Rattle.console_c.specs.JournalLength.{length_words, console_journal_length};
+
+#[unsafe(no_mangle)]
+pub extern "C" fn console_journal_length(
+    regions: &[u64],
+    externs: &[u64],
+    parameters: &[u64],
+    nodes: &[u64],
+    arguments: &[u64],
+    instructions: &[u64],
+    entries: &mut [u64; 1],
+    error: &mut [u64; 6],
+) -> u64
+    ensures { length_words result entries.new error.new ≡ console_journal_length (tables_of regions.now externs.now parameters.now nodes.now arguments.now instructions.now) entries.old error.old }
+{
+    console_c::journal_length::console_journal_length(
+        regions,
+        externs,
+        parameters,
+        nodes,
+        arguments,
+        instructions,
+        entries,
+        error,
+    )
+}
