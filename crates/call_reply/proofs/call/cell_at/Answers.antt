@@ -1,0 +1,15 @@
+use mathlib.Core.Path.{sym, ◌∙◌}
+use Rattle.call_reply.proofs.call.cell_at.Goals as goal
+
+pub resolve_at-resolution-requires : goal.resolve_at-resolution-requires
+resolve_at-resolution-requires c = c.requires.paired
+
+pub argument_cell-requires : goal.argument_cell-requires
+argument_cell-requires c =
+    (c.requires.laid, rw (sym c.resolve_at-resolution.ensures ∙ c.in-Resolved.is) at c.requires.cell)
+
+pub returns-in-Resolved : goal.returns-in-Resolved
+returns-in-Resolved c = rw (sym c.resolve_at-resolution.ensures ∙ c.in-Resolved.is) c.argument_cell.ensures
+
+pub returns-in-Failed : goal.returns-in-Failed
+returns-in-Failed c = rw (sym c.resolve_at-resolution.ensures ∙ c.in-Failed.is)
