@@ -1,4 +1,4 @@
-//! Links libconsole_c.a, which `rt staticlib console_c` writes: from the folder that MUGWORTLATCH_LIB_DIR names, or else
+//! Links libconsole_c.a, which `tools/staticlib` writes: from the folder that MUGWORTLATCH_LIB_DIR names, or else
 //! from target/staticlib of the repository.
 use std::path::{Path, PathBuf};
 
@@ -10,7 +10,7 @@ fn main() {
     println!("cargo:rerun-if-env-changed={FOLDER}");
     println!("cargo:rerun-if-changed={}", library.display());
     if !library.exists() {
-        eprintln!("no {}: run `rt staticlib console_c` at the repository's root,", library.display());
+        eprintln!("no {}: run `tools/staticlib` at the repository's root,", library.display());
         eprintln!("or name the library's folder in {FOLDER}");
         std::process::exit(1);
     }

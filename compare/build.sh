@@ -60,8 +60,8 @@ changeable() {
 # The proved library.
 library() {
     command -v rt >/dev/null || fail "no rt on the path: the library is built by the Rattle kit"
-    say "proving and building the library (rt staticlib console_c)"
-    (cd .. && rt staticlib console_c) >target/staticlib.log 2>&1 || fail "not built: see compare/target/staticlib.log"
+    say "proving and building the library (tools/staticlib)"
+    ../tools/staticlib >target/staticlib.log 2>&1 || fail "not built: see compare/target/staticlib.log"
 }
 
 # An unproved copy of the library: the same code without its contracts, one Rust crate for each of ours.

@@ -39,7 +39,7 @@ wrong_copies() (
 )
 
 damaged_files() {
-    (cd .. && rt check stepper) && damage/damage.py --runs 50 && damage/where.py
+    (cd ../crates/stepper && rt run -- refusals) && damage/damage.py --runs 50 && damage/where.py
 }
 
 chart_files() { python3 ../crates/verdict_digits/model.py --check; }

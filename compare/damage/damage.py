@@ -4,7 +4,7 @@
 Usage: compare/damage/damage.py [--seed N] [--runs N] [--show N] [--program PATH]
 
 N damaged copies (200) of each file under examples/ and of the program's own two files are read by the console's program,
-`target/bin/stepper tables FILE`, and by reader.py, which is written from docs/FORMAT.md and the laboratory's paper.
+`crates/stepper/out/stepper tables FILE` (`rt run` there builds it), and by reader.py, which is written from docs/FORMAT.md and the laboratory's paper.
 Both must refuse the same line, or give the same six tables word for word. Each file is read undamaged first, and so
 are the files of edges.py.
 The last line has the counts; ends with 0 only if nothing differs.
@@ -173,7 +173,7 @@ def main():
     options.add_argument('--seed', type=int, default=1)
     options.add_argument('--runs', type=int, default=200)
     options.add_argument('--show', type=int, default=5, help='differences that are printed')
-    options.add_argument('--program', default=str(ROOT / 'target/bin/stepper'))
+    options.add_argument('--program', default=str(ROOT / 'crates/stepper/out/stepper'))
     options = options.parse_args()
     counts = dict(files=0, refused=0, equal=0, differ=0)
     with tempfile.TemporaryDirectory() as folder:

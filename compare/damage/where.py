@@ -4,7 +4,7 @@
 Usage: compare/damage/where.py [--seed N] [--runs N] [--show N] [--program PATH]
 
 N (2000) sets of six tables are made at random, about a third of jumps, labels and CONVERT alone, damaged, written as numbers
-and given to `target/bin/stepper check FILE`.
+and given to `crates/stepper/out/stepper check FILE` (`rt run` there builds it).
 The refusal is that of the model of crates/cases_calls, the place and its words are worked out here from the laboratory's paper;
 of 20, 21 and 22, of which the papers name no place, from docs/DECISIONS.md (K11), in the words of crates/stepper/stdout.
 Of any other refusal the number alone is compared.
@@ -387,7 +387,7 @@ def main():
     parser.add_argument('--seed', type=int, default=1)
     parser.add_argument('--runs', type=int, default=2000)
     parser.add_argument('--show', type=int, default=3)
-    parser.add_argument('--program', default=str(ROOT / 'target' / 'bin' / 'stepper'))
+    parser.add_argument('--program', default=str(ROOT / 'crates/stepper/out/stepper'))
     chosen = parser.parse_args()
     rng = random.Random(chosen.seed)
     counts, differ = collections.Counter(), 0

@@ -1,7 +1,7 @@
 /* The other calls: a type error, one frame's verdict, a CALL's arguments and names, an expression's
  * references, how long a journal to lend; and a loop that is run. A session is in example.c. Build
  * and run from the repository's root:
- *   rt staticlib console_c
+ *   tools/staticlib
  *   cc -o target/calls crates/console_c/calls.c target/staticlib/libconsole_c.a && target/calls */
 #include "console.h"
 

@@ -1,4 +1,4 @@
-/* The console's calls for C. The library is libconsole_c.a (rt staticlib console_c).
+/* The console's calls for C. The library is libconsole_c.a (tools/staticlib).
  *
  * A slice is a pointer and a length in 64-bit words; an empty one still needs a pointer that is
  * not null and is aligned to 8. A fixed array is a pointer, never null. Lent buffers must not

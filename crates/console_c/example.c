@@ -1,6 +1,6 @@
 /* A student's session: MOVE n[0] 7 and CALL f n[0] n[1], forward twice and back once. A loop and a
  * run are in calls.c. Build and run from the repository's root:
- *   rt staticlib console_c
+ *   tools/staticlib
  *   cc -o target/example crates/console_c/example.c target/staticlib/libconsole_c.a && target/example */
 #include "console.h"
 
