@@ -8,7 +8,7 @@ mod play;
 mod print;
 mod steps;
 
-use libc::STDIN_FILENO;
+use script::descriptor::STDIN_FILENO;
 
 fn main() {
     let mut text = [0; 1048576];

@@ -1,5 +1,5 @@
 // Parts of a line: the call and its number, the words of its answer, and the words that changed, with bars between.
-use libc::STDOUT_FILENO;
+use script::descriptor::STDOUT_FILENO;
 use script::line::least;
 
 // What an out-array holds before a call; no answer of the cases has this word.

@@ -2,9 +2,9 @@
 // Of two words the first says which way the second is converted, `to-real` an INTEGER, `to-integer` a REAL's word; the result's word is written.
 #![tactic(auto)]
 
-use libc::{STDIN_FILENO, STDOUT_FILENO};
 use real_text::decimal::read_decimal;
 use real_text::text::text_of;
+use script::descriptor::{STDIN_FILENO, STDOUT_FILENO};
 use script::line::{line_at, part, same, word_at};
 use script::number::read_number;
 use words::convert::{Converted, integer_to_real, real_to_integer};

@@ -2,6 +2,7 @@
 use crate::about::about;
 use crate::steps::{forward_key, reset};
 use script::line::{part, word_at};
+use std::rt::Files;
 use stepper_calls::length::measure;
 use stepper_calls::step::{back_key, run_key};
 use stepper_calls::verdict::check_key;
@@ -19,6 +20,7 @@ use stepper_words::names::NAME_WORDS;
 
 // Reads a file and opens its program.
 pub fn open_file(
+    rt: &impl Files,
     path: &[u8],
     buffer: &mut [u8; TEXT_BYTES],
     names: &mut [u64; NAME_WORDS],
@@ -28,7 +30,7 @@ pub fn open_file(
     journal: &mut [u64; JOURNAL_WORDS],
     desk: Desk,
 ) -> Desk {
-    let count = read_bytes(path, buffer);
+    let count = read_bytes(rt, path, buffer);
     if count == 0 {
         absent(path);
         return desk;
@@ -131,6 +133,7 @@ fn press(
 
 // `o FILE`. A name with a blank in it would open another file.
 fn open_key(
+    rt: &impl Files,
     line: &[u8],
     buffer: &mut [u8; TEXT_BYTES],
     names: &mut [u64; NAME_WORDS],
@@ -148,6 +151,7 @@ fn open_key(
         return desk;
     }
     open_file(
+        rt,
         part(line, path.start, path.end),
         buffer,
         names,
@@ -160,6 +164,7 @@ fn open_key(
 }
 
 fn act(
+    rt: &impl Files,
     line: &[u8],
     buffer: &mut [u8; TEXT_BYTES],
     names: &mut [u64; NAME_WORDS],
@@ -171,7 +176,9 @@ fn act(
 ) -> Desk {
     let key = key_of(line);
     if let Key::Open = key {
-        return open_key(line, buffer, names, tables, before, memory, journal, desk);
+        return open_key(
+            rt, line, buffer, names, tables, before, memory, journal, desk,
+        );
     }
     press(
         key,
@@ -187,6 +194,7 @@ fn act(
 
 // Asks for a key and acts on it. The end of the input quits.
 fn turn(
+    rt: &impl Files,
     buffer: &mut [u8; TEXT_BYTES],
     names: &mut [u64; NAME_WORDS],
     tables: &mut [u64; TABLE_WORDS],
@@ -201,7 +209,9 @@ fn turn(
         return desk.stopped();
     }
     let keys = typed_line(&line, typed);
-    let next = act(keys, buffer, names, tables, before, memory, journal, desk);
+    let next = act(
+        rt, keys, buffer, names, tables, before, memory, journal, desk,
+    );
     if key_of(keys).shows() {
         show(buffer, names, tables, before, memory, next);
     }
@@ -210,6 +220,7 @@ fn turn(
 
 // Nothing says that the keys end, so the loop counts its turns down, from a number that no session uses up.
 pub fn turns(
+    rt: &impl Files,
     buffer: &mut [u8; TEXT_BYTES],
     names: &mut [u64; NAME_WORDS],
     tables: &mut [u64; TABLE_WORDS],
@@ -224,7 +235,7 @@ pub fn turns(
         if !now.going {
             break;
         }
-        now = turn(buffer, names, tables, before, memory, journal, now);
+        now = turn(rt, buffer, names, tables, before, memory, journal, now);
         left -= 1;
     }
 }

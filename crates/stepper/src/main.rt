@@ -7,6 +7,8 @@ mod keys;
 mod run;
 mod steps;
 
-fn main() {
-    run::run();
+use std::io::IsTerminal;
+
+fn main(rt: HostRuntime) {
+    run::run(&rt, rt.stdout().is_terminal(), rt.stdin().is_terminal());
 }

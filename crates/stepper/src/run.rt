@@ -1,7 +1,8 @@
 // The program: `FILE` steps it, `check FILE` tells its verdict and how long a journal is enough, one after the other as they are named; `tables FILE` prints its six tables as words, `refusals` the page of refusals.
 use crate::keys::{open_file, turns};
-use libc::{STDIN_FILENO, STDOUT_FILENO};
 use script::line::same;
+use std::env::FillError;
+use std::rt::{Env, Files};
 use stepper_desk::state::{Desk, JOURNAL_WORDS, MEMORY_WORDS, State, TEXT_BYTES, new_desk};
 use stepper_lines::help::help;
 use stepper_lines::page::page;
@@ -30,7 +31,7 @@ fn verdict(desk: Desk) {
     }
 }
 
-fn start(path: &[u8], only_check: bool, desk: Desk) {
+fn start(rt: &impl Files, path: &[u8], only_check: bool, desk: Desk) {
     let mut buffer = [0; TEXT_BYTES];
     let mut names = [0; NAME_WORDS];
     let mut tables = [0; TABLE_WORDS];
@@ -38,6 +39,7 @@ fn start(path: &[u8], only_check: bool, desk: Desk) {
     let mut memory = [0; MEMORY_WORDS];
     let mut journal = [0; JOURNAL_WORDS];
     let opened = open_file(
+        rt,
         path,
         &mut buffer,
         &mut names,
@@ -57,6 +59,7 @@ fn start(path: &[u8], only_check: bool, desk: Desk) {
     show(&buffer, &names, &tables, &before, &memory, opened);
     text(b"h shows the keys\n");
     turns(
+        rt,
         &mut buffer,
         &mut names,
         &mut tables,
@@ -68,29 +71,39 @@ fn start(path: &[u8], only_check: bool, desk: Desk) {
 }
 
 // One argument. After `check` it is a file whose verdict is told, with nothing cut; else a file to step. Answers whether it is that word.
-fn argument(at: usize, only_check: bool, desk: Desk) -> bool {
+fn argument(rt: &(impl Env + Files), at: usize, only_check: bool, desk: Desk) -> bool {
     let mut word = io::buffer();
-    let length = os::arg(at, &mut word);
+    let length = rt.arg(at, &mut word).unwrap_or(0);
     let path = &word[..length];
     if only_check {
         let view = desk.view;
-        start(path, true, desk.viewed(view.with_all()));
+        start(rt, path, true, desk.viewed(view.with_all()));
         return false;
     }
     if same(path, b"check") {
         return true;
     }
-    start(path, false, desk);
+    start(rt, path, false, desk);
     false
 }
 
+// How many arguments there are, the program's own name among them.
+fn argument_count(rt: &impl Env) -> usize {
+    for at in 0..usize::MAX {
+        if let Err(FillError::NotPresent) = rt.arg(at, &mut []) {
+            return at;
+        }
+    }
+    usize::MAX
+}
+
 // All arguments, one after the other. After a last `check` there is no file to read.
-fn arguments(desk: Desk) {
-    let count = os::arg_count();
+fn arguments(rt: &(impl Env + Files), desk: Desk) {
+    let count = argument_count(rt);
     let mut at = 1;
     let mut only_check = false;
     while at < count {
-        only_check = argument(at, only_check, desk);
+        only_check = argument(rt, at, only_check, desk);
         at += 1;
     }
     if only_check {
@@ -98,25 +111,23 @@ fn arguments(desk: Desk) {
     }
 }
 
-pub fn run() {
-    let desk = new_desk(
-        libc::isatty(STDOUT_FILENO) == 1,
-        libc::isatty(STDIN_FILENO) != 1,
-    );
+// To a terminal, or from one, as is told of it.
+pub fn run(rt: &(impl Env + Files), to_terminal: bool, from_terminal: bool) {
+    let desk = new_desk(to_terminal, !from_terminal);
     let mut word = io::buffer();
-    let length = os::arg(1, &mut word);
+    let length = rt.arg(1, &mut word).unwrap_or(0);
     let first = &word[..length];
     if same(first, b"refusals") {
         page();
         return;
     }
     if same(first, b"tables") {
-        table_words(desk);
+        table_words(rt, desk);
         return;
     }
     if length == 0 {
         help();
         return;
     }
-    arguments(desk);
+    arguments(rt, desk);
 }

@@ -1,5 +1,5 @@
 // Lines from standard input.
-use libc::STDIN_FILENO;
+use script::descriptor::STDIN_FILENO;
 use script::line::part;
 use stepper_lines::print::{byte, text};
 use stepper_lines::view::View;

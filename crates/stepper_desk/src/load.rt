@@ -6,6 +6,10 @@ use crate::trouble::turned_down;
 use journal::cells::CELL_WIDTH;
 use journal::entries::ENTRY_WIDTH;
 use script::line::{least, part};
+use std::fs::File;
+use std::io::Read;
+use std::rt::Files;
+use std::str::from_utf8;
 use stepper_lines::print::text;
 use stepper_tables::file::{Memory, Reader, TABLE_WORDS, read_file};
 use stepper_tables::held::table;
@@ -68,15 +72,28 @@ fn read_tables(
     }
 }
 
-// Reads the file's bytes; how many: none where it cannot be read, the buffer's length where there are more than it holds.
-pub fn read_bytes(path: &[u8], buffer: &mut [u8; TEXT_BYTES]) -> usize {
-    let file = os::open_read(path);
-    if file < 0 {
-        return 0;
+// Reads until the buffer is full, the file ends or a read fails; how many bytes.
+fn read_full(file: &mut impl Read, buffer: &mut [u8; TEXT_BYTES]) -> usize {
+    let mut count = 0;
+    while count < TEXT_BYTES {
+        let more = file.read(&mut buffer[count..]).unwrap_or(0);
+        if more == 0 {
+            break;
+        }
+        count += more;
     }
-    let count = io::read_full(file, buffer);
-    libc::close(file);
     count
+}
+
+// Reads the file's bytes; how many: none where it cannot be read, the buffer's length where there are more than it holds.
+pub fn read_bytes(rt: &impl Files, path: &[u8], buffer: &mut [u8; TEXT_BYTES]) -> usize {
+    let Ok(name) = from_utf8(path) else {
+        return 0;
+    };
+    let Ok(mut file) = File::open(rt, name) else {
+        return 0;
+    };
+    read_full(&mut file, buffer)
 }
 
 // A file that is not there: the desk stays as it is.

@@ -19,7 +19,7 @@ pub struct Range {
 }
 
 // What is wrong with a jump.
-#[derive(Drop)]
+#[derive(Clone, Copy)]
 pub enum Jump {
     // Its label, which is on no row.
     NoTarget(u64),
@@ -30,7 +30,7 @@ pub enum Jump {
 }
 
 // What a CONVERT does, or what is wrong with it.
-#[derive(Drop)]
+#[derive(Clone, Copy)]
 pub enum Conversion {
     ToReal,
     ToInteger,

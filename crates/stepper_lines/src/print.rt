@@ -1,6 +1,6 @@
 // Pieces of output that no width cuts.
 use crate::view::View;
-use libc::STDOUT_FILENO;
+use script::descriptor::STDOUT_FILENO;
 use stepper_words::list::line_of;
 
 pub fn text(bytes: &[u8]) {

@@ -1,6 +1,7 @@
 // The six tables as words, for a host that takes them: each heading, then a row a line, in decimal.
 ghost use Rattle.std.specs.Prelude.{◌<◌};
 
+use std::rt::{Env, Files};
 use stepper_desk::load::{absent, load, read_bytes};
 use stepper_desk::state::{Desk, TEXT_BYTES};
 use stepper_lines::print::{byte, number, text};
@@ -40,13 +41,13 @@ fn table_rows(tables: &[u64; TABLE_WORDS], which: Table, lengths: [usize; TABLES
 }
 
 // The tables of the file that the second argument names.
-pub fn table_words(desk: Desk) {
+pub fn table_words(rt: &(impl Env + Files), desk: Desk) {
     let mut path = io::buffer();
-    let length = os::arg(2, &mut path);
+    let length = rt.arg(2, &mut path).unwrap_or(0);
     let mut buffer = [0; TEXT_BYTES];
     let mut names = [0; NAME_WORDS];
     let mut tables = [0; TABLE_WORDS];
-    let count = read_bytes(&path[..length], &mut buffer);
+    let count = read_bytes(rt, &path[..length], &mut buffer);
     if count == 0 {
         absent(&path[..length]);
         return;

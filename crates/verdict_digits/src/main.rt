@@ -5,11 +5,13 @@ mod regions;
 mod row;
 mod verdict;
 
+use script::descriptor::STDOUT_FILENO;
+
 fn main() {
     let mut place = 0;
     while place < verdict_table::table::FORMS {
-        io::print_decimal(libc::STDOUT_FILENO, verdict::verdict(place));
+        io::print_decimal(STDOUT_FILENO, verdict::verdict(place));
         place += 1;
     }
-    io::write_all(libc::STDOUT_FILENO, b"\n");
+    io::write_all(STDOUT_FILENO, b"\n");
 }
