@@ -18,14 +18,14 @@ pub const TABLE_WORDS: usize = TABLES * ROOM;
 const DEFAULT_ENTRIES: usize = 64;
 
 // The memory to lend: exactly enough for the cells, or so many words.
-#[derive(Drop)]
+#[derive(Clone, Copy)]
 pub enum Memory {
     Enough,
     Words(usize),
 }
 
 // What was read so far: the heading under which rows stand, the line, its last word and whether it is taken, the names as texts, whether there are names as numbers, the tables' lengths in words, what is to be lent.
-#[derive(Drop)]
+#[derive(Clone, Copy)]
 pub struct Reader {
     pub heading: Heading,
     pub line: usize,

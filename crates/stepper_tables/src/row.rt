@@ -39,7 +39,7 @@ impl Outcome {
 }
 
 // The words, how many, how many names are known as texts after them, whether a name was written as a number, the word of the text that was read last, and whether all is taken.
-#[derive(Drop)]
+#[derive(Clone, Copy)]
 pub struct Row {
     pub words: [u64; ROW_WORDS],
     pub count: usize,
