@@ -7,8 +7,6 @@ mod keys;
 mod run;
 mod steps;
 
-use std::io::IsTerminal;
-
 fn main(rt: HostRuntime) {
-    run::run(&rt, rt.stdout().is_terminal(), rt.stdin().is_terminal());
+    run::run(&rt, &rt.stdout(), &rt.stdin());
 }

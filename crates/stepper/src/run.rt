@@ -2,6 +2,7 @@
 use crate::keys::{open_file, turns};
 use script::line::same;
 use std::env::FillError;
+use std::io::IsTerminal;
 use std::rt::{Env, Files};
 use stepper_desk::state::{Desk, JOURNAL_WORDS, MEMORY_WORDS, State, TEXT_BYTES, new_desk};
 use stepper_lines::help::help;
@@ -111,9 +112,8 @@ fn arguments(rt: &(impl Env + Files), desk: Desk) {
     }
 }
 
-// To a terminal, or from one, as is told of it.
-pub fn run(rt: &(impl Env + Files), to_terminal: bool, from_terminal: bool) {
-    let desk = new_desk(to_terminal, !from_terminal);
+pub fn run(rt: &(impl Env + Files), stdout: &impl IsTerminal, stdin: &impl IsTerminal) {
+    let desk = new_desk(stdout.is_terminal(), !stdin.is_terminal());
     let mut word = io::buffer();
     let length = rt.arg(1, &mut word).unwrap_or(0);
     let first = &word[..length];
