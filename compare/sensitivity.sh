@@ -15,11 +15,14 @@ apply() {
         END { exit($found == 1 ? 0 : 1) }' "$2" || fail "$1 does not apply to ${3:-$2}"
 }
 
-# The library's chart, where its edits change it.
+# The library's chart, where its edits change it: outside the checkout, in which rt ci refuses a .rt file of no crate.
+charts=$(mktemp -d)
+trap 'rm -rf "$charts"' EXIT
+
 chart() {
     for file in verdict_table/src/table.rt verdict_digits/stdout; do
-        mkdir -p "target/chart/${file%/*}"
-        cp "../crates/$file" "target/chart/$file" || fail "there is no crates/$file"
+        mkdir -p "$charts/${file%/*}"
+        cp "../crates/$file" "$charts/$file" || fail "there is no crates/$file"
     done
 }
 
@@ -41,7 +44,7 @@ place() {
     wrong/library/* | wrong/steps/* | wrong/conversions/*) echo "target/copy/${file%%/*}/src/${file#*/}.rs" ;;
     wrong/oracle/*) echo "target/quil-rs/src/$file" ;;
     wrong/parting/*) echo "target/oracle/src/$file" ;;
-    wrong/chart/*) echo "target/chart/$file" ;;
+    wrong/chart/*) echo "$charts/$file" ;;
     wrong/plain/*) echo "target/plain/src/$file" ;;
     esac
 }
@@ -75,7 +78,7 @@ noticed() {
     name=${name%.edit}${3:+ (--only $3)}
     what=$(sed -n 's/^# //p' "$1")
     log=target/wrong/$(echo "$name" | tr -d ' ()' | tr / _).log
-    if "target/release/$2" --first $(amount "$2") ${3:+--only "$3" --crates target/chart} >"$log" 2>/dev/null; then
+    if "target/release/$2" --first $(amount "$2") ${3:+--only "$3" --crates "$charts"} >"$log" 2>/dev/null; then
         echo "NOT NOTICED  $name: $what"
         unnoticed=$((unnoticed + 1))
     elif grep -q '^DIFFERS' "$log"; then
