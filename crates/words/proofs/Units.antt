@@ -62,7 +62,7 @@ read b s n v = go (is_finite b) refl
         record { finite = e; sign = p.0; size_is = p.1 }
     go false e = absurd (no_value b s n units_of_one e v)
 
--- ---- a whole number n, below 2 ^ 64, rounded to a REAL: in units it is `rounded 53 (n * unitsOfOne)`
+-- ---- a whole number n, below 2 ^ 64, rounded to a REAL: in units it is `rounded 53 (n * units_of_one)`
 
 round_one : (s : Bool) (n : ℕ) → round binary64 s n 1 ≡ units binary64 s (kept 53 (n * units_of_one)) (dropped 53 (n * units_of_one))
 round_one s n =
