@@ -30,13 +30,5 @@ pub fn conditions_fit(regions: &[u64], instructions: &[u64]) -> bool
     ensures { result ≡ conditions_fit regions.now instructions.now }
 {
     let rows = instructions.len() / INSTRUCTION_WIDTH;
-    let mut row = 0;
-    while row < rows {
-        let x = instruction_at(instructions, row);
-        if !condition_fits(regions, x) {
-            return false;
-        }
-        row += 1;
-    }
-    true
+    (0..rows).all(|row| condition_fits(regions, instruction_at(instructions, row)))
 }

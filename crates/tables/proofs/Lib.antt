@@ -9,3 +9,4 @@ pub mod EndsLaws
 pub mod LookupLaws
 pub mod MarksLaws
 pub mod CellsLaws
+pub mod RowsLaws
