@@ -12,16 +12,13 @@ pub fn put(out: &mut [u64], i: usize, word: u64) {
 // It ends early before a token that is no number.
 pub fn fill(text: &[u8], at: usize, out: &mut [u64], count: usize) -> usize {
     let mut place = at;
-    let mut i = 0;
-    while i < count {
+    for i in 0..count {
         let token = token_at(text, place);
-        let found = token.found;
-        let Found::Number(n) = found else {
+        let Found::Number(n) = token.found else {
             break;
         };
         put(out, i, n);
         place = token.next;
-        i += 1;
     }
     place
 }

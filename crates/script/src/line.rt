@@ -1,5 +1,5 @@
 // A text by lines, and a line by words. Every place is taken: past the end there is nothing.
-ghost use Rattle.std.specs.Prelude.{◌≤◌, length};
+ghost use Rattle.std.specs.Prelude.{◌≤◌};
 
 // From `start` up to `end`; `next` is where the next line begins.
 #[derive(Clone, Copy)]
@@ -18,46 +18,34 @@ pub struct Word {
 pub fn least(a: usize, b: usize) -> usize
     ensures { (result ≤ a) × (result ≤ b) }
 {
-    if a < b { a } else { b }
+    a.min(b)
 }
 
 // What the text has from `start` up to `end`.
 pub fn part(text: &[u8], start: usize, end: usize) -> &[u8] {
-    let last = least(end, text.len());
-    let first = least(start, last);
+    let last = end.min(text.len());
+    let first = start.min(last);
     &text[first..last]
 }
 
 pub fn byte_at(text: &[u8], i: usize) -> u8 {
-    if i < text.len() { text[i] } else { 0 }
+    text.get(i).copied().unwrap_or(0)
 }
 
 fn is_blank(byte: u8) -> bool {
-    (byte == b' ') | ((byte == b'\t') | (byte == b'\r'))
+    matches!(byte, b' ' | b'\t' | b'\r')
 }
 
 // The first place from `at` on, before `end`, that holds the byte; or `end`.
 fn find(text: &[u8], at: usize, end: usize, byte: u8) -> usize {
-    let mut i = at;
-    while i < end {
-        if byte_at(text, i) == byte {
-            return i;
-        }
-        i += 1;
-    }
-    end
+    (at..end).find(|i| byte_at(text, *i) == byte).unwrap_or(end)
 }
 
 // The first place from `at` on, before `end`, whose byte is blank or not, as asked; or `end`.
 fn pass(text: &[u8], at: usize, end: usize, blank: bool) -> usize {
-    let mut i = at;
-    while i < end {
-        if is_blank(byte_at(text, i)) != blank {
-            return i;
-        }
-        i += 1;
-    }
-    end
+    (at..end)
+        .find(|i| is_blank(byte_at(text, *i)) != blank)
+        .unwrap_or(end)
 }
 
 // The line that begins at `at`, without the comment from `#` on.
@@ -66,7 +54,7 @@ pub fn line_at(text: &[u8], at: usize) -> Line {
     Line {
         start: at,
         end: find(text, at, feed, b'#'),
-        next: std::num::wrapping_add_usize(feed, 1),
+        next: feed.wrapping_add(1),
     }
 }
 
@@ -81,15 +69,5 @@ pub fn word_at(text: &[u8], at: usize, end: usize) -> Word {
 
 // Whether two texts have the same bytes.
 pub fn same(a: &[u8], b: &[u8]) -> bool {
-    if a.len() != b.len() {
-        return false;
-    }
-    let mut i = 0;
-    while i < a.len() {
-        if byte_at(a, i) != byte_at(b, i) {
-            return false;
-        }
-        i += 1;
-    }
-    true
+    a == b
 }

@@ -1,5 +1,5 @@
 // The tokens of a text. Spaces, line feeds and comments, from `#` to the end of the line, stand between them.
-ghost use Rattle.std.specs.Prelude.{◌≡◌, ◌<◌, ◌≤◌, length, ◌≢◌};
+ghost use Rattle.std.specs.Prelude.{◌<◌, ◌≤◌, length, ◌≢◌};
 
 // The text's end, a decimal number, a number past 2^64 - 1, or any other byte.
 #[derive(Clone, Copy)]
@@ -19,17 +19,12 @@ pub struct Token {
 
 impl Token {
     pub fn is_end(self) -> bool {
-        let found = self.found;
-        match found {
-            Found::End => true,
-            _ => false,
-        }
+        matches!(self.found, Found::End)
     }
 
     // The number; 0 for a token that is none.
     pub fn number(self) -> u64 {
-        let found = self.found;
-        match found {
+        match self.found {
             Found::Number(n) => n,
             _ => 0,
         }
@@ -37,26 +32,15 @@ impl Token {
 
     // The sign's byte; 0 for a token that is none.
     pub fn sign(self) -> u8 {
-        let found = self.found;
-        match found {
+        match self.found {
             Found::Sign(byte) => byte,
             _ => 0,
         }
     }
 }
 
-pub fn wide(byte: u8) -> u64
-    ensures { result ≡ byte }
-{
-    byte as u64
-}
-
-fn is_digit(byte: u8) -> bool {
-    (b'0' <= byte) & (byte <= b'9')
-}
-
 fn is_blank(byte: u8) -> bool {
-    (byte == b' ') | (byte == b'\n')
+    matches!(byte, b' ' | b'\n')
 }
 
 // Whether a byte belongs to a comment, where the byte before it did or did not.
@@ -70,14 +54,11 @@ fn skip(text: &[u8], at: usize) -> usize
     ensures after { result < length text.now → at ≤ result }
 {
     let mut comment = false;
-    let mut i = at;
-    while i < text.len() {
-        let byte = text[i];
-        comment = in_comment(byte, comment);
-        if !(comment | is_blank(byte)) {
+    for i in at..text.len() {
+        comment = in_comment(text[i], comment);
+        if !comment && !is_blank(text[i]) {
             return i;
         }
-        i += 1;
     }
     text.len()
 }
@@ -87,11 +68,11 @@ fn append(number: Found, byte: u8) -> Found {
     let Found::Number(value) = number else {
         return number;
     };
-    let digit = wide(byte) % 16;
-    if value > (0xFFFFFFFFFFFFFFFF - digit) / 10 {
-        return Found::TooLarge;
-    }
-    Found::Number(value * 10 + digit)
+    let digit = u64::from(byte % 16);
+    value
+        .checked_mul(10)
+        .and_then(|tens| tens.checked_add(digit))
+        .map_or(Found::TooLarge, Found::Number)
 }
 
 // The number whose first digit stands at `at`: all digits up to another byte or the text's end.
@@ -101,16 +82,16 @@ fn number_at(text: &[u8], at: usize) -> Token
     ensures after { at < result.next }
 {
     let mut found = append(Found::Number(0), text[at]);
-    let mut i = at + 1;
-    while i < text.len() {
-        let byte = text[i];
-        if !is_digit(byte) {
-            break;
+    for i in at + 1..text.len() {
+        if !text[i].is_ascii_digit() {
+            return Token { found, next: i };
         }
-        found = append(found, byte);
-        i += 1;
+        found = append(found, text[i]);
     }
-    Token { found, next: i }
+    Token {
+        found,
+        next: text.len(),
+    }
 }
 
 // The first token from `at` on.
@@ -126,7 +107,7 @@ pub fn token_at(text: &[u8], at: usize) -> Token
         };
     }
     let byte = text[start];
-    if is_digit(byte) {
+    if byte.is_ascii_digit() {
         return number_at(text, start);
     }
     Token {
