@@ -6,7 +6,8 @@ use mathlib.Core.Path.{◌≡◌, refl, ap}
 use native.Mathlib.Omega.{arith}
 use lib.Dec.{leb}
 use borrow.Author.Tests.{le-leb, lt-leb, leb-true}
-use Rattle.tables.specs.Outcome.{Outcome, ok, refuse, ◌>>◌, need}
+use Rattle.std.specs.Prelude.{Ok, Err}
+use Rattle.tables.specs.Outcome.{Outcome, ◌>>◌, need}
 use Rattle.tables.specs.Rows.{region_rows, region_length}
 use Rattle.tables.specs.Refusal.{too_many_cells}
 use Rattle.tables.specs.Cells.{cell_limit, cells_in, first_cell, origin, cell_count, cells_of}
@@ -35,19 +36,19 @@ module _ (regions : List ℕ) where
   pub origin-within : (r : ℕ) → r < region_rows regions → origin regions r + region_length regions r ≤ cell_count regions
   origin-within = first_cell-within
 
-  pub cells_over : cell_limit < cell_count regions → refuse too_many_cells ≡ cells_of regions
+  pub cells_over : cell_limit < cell_count regions → Err too_many_cells ≡ cells_of regions
   unfolding cells_of ◌>>◌ need
   cells_over h = rw (lt-leb (cell_count regions) cell_limit h)
 
-  pub cells-counted : {n : ℕ} → n ≡ cell_count regions → n ≤ cell_limit → ok n ≡ cells_of regions
+  pub cells-counted : {n : ℕ} → n ≡ cell_count regions → n ≤ cell_limit → Ok n ≡ cells_of regions
   unfolding cells_of ◌>>◌ need
-  cells-counted {n} e h = rw (le-leb (cell_count regions) cell_limit (omega arith)) (ap ok e)
+  cells-counted {n} e h = rw (le-leb (cell_count regions) cell_limit (omega arith)) (ap Ok e)
 
   -- what a count that was given is
-  pub cells_given : (n : ℕ) → cells_of regions ≡ ok n → (n ≡ cell_count regions) × (n ≤ cell_limit)
+  pub cells_given : (n : ℕ) → cells_of regions ≡ Ok n → (n ≡ cell_count regions) × (n ≤ cell_limit)
   unfolding cells_of ◌>>◌ need
   cells_given n e = at (leb (cell_count regions) cell_limit) (λ t. leb-true (cell_count regions) cell_limit t) e
     where
-      at : (t : Bool) → (t ≡ true → cell_count regions ≤ cell_limit) → (need t too_many_cells >> ok (cell_count regions)) ≡ ok n → (n ≡ cell_count regions) × (n ≤ cell_limit)
+      at : (t : Bool) → (t ≡ true → cell_count regions ≤ cell_limit) → (need t too_many_cells >> Ok (cell_count regions)) ≡ Ok n → (n ≡ cell_count regions) × (n ≤ cell_limit)
       at true h z = let q : cell_count regions ≡ n = cc in let l : cell_count regions ≤ cell_limit = h refl in (omega arith, omega arith)
       at false h z = let w : ◌≡◌ {A = ℕ} 0 1 = cc in absurd (omega arith)

@@ -10,7 +10,7 @@ use lib.ListN.{get_or, set, length, length-set}
 use lib.Seq.{get_or-set_same, get_or-set_other}
 use Rattle.tables.specs.Lookup.{name_at, lookup_among}
 use Rattle.tables.specs.Marks.{mark_of, Marked}
-use Rattle.tables.specs.declared.lookup.Found.TheVariants.{Nothing}
+use Rattle.std.specs.Prelude.{Some, None}
 use Rattle.tables.proofs.FirstLaws.{never}
 use Rattle.tables.proofs.LookupLaws.{among_miss}
 
@@ -24,7 +24,7 @@ mark_within name e f = omega (arith, mark_below name, e, f)
 
 module _ (width : ℕ) (xs : List ℕ) (marks : List Bool) (n : ℕ) (m : Marked width xs marks n) where
   -- row n's name, whose mark r is not set, is no earlier row's
-  pub unmarked : {r : ℕ} → r ≡ mark_of (name_at width xs n) → not (get_or marks r false) ≡ true → lookup_among width xs (name_at width xs n) n ≡ Nothing
+  pub unmarked : {r : ℕ} → r ≡ mark_of (name_at width xs n) → not (get_or marks r false) ≡ true → lookup_among width xs (name_at width xs n) n ≡ None
   unmarked e t = among_miss width xs _ n (λ k h q. never (sym (sym (m.set k h) ∙ (ap (λ name. get_or marks (mark_of name) false) q ∙ (ap (λ r. get_or marks r false) (sym e) ∙ not-true _ t)))))
 
   pub marked_row : Marked width xs (set marks (mark_of (name_at width xs n)) true) (n + 1)

@@ -1,9 +1,11 @@
 -- Tests that both hold, and looks that were passed. Assumes nothing.
 use Prim.Native.Nat.{ℕ}
 use mathlib.Core.Bool.{Bool, true, false, ◌&&◌}
-use mathlib.Core.Path.{◌≡◌, refl}
+use mathlib.Core.Path.{◌≡◌, refl, sym, ◌∙◌}
 use native.Mathlib.Omega.{arith}
-use Rattle.tables.specs.Outcome.{Outcome, ok, ◌>>◌, need}
+use Rattle.std.specs.Prelude.{Ok, Err}
+use Rattle.tables.specs.declared.refusal.Refusal.{Refusal}
+use Rattle.tables.specs.Outcome.{Outcome, ◌>>◌, need}
 use Rattle.tables.proofs.FirstLaws.{never}
 
 pub both : (a b : Bool) → a && b ≡ true → (a ≡ true) × (b ≡ true)
@@ -16,12 +18,16 @@ and_false true = refl
 and_false false = refl
 
 -- a look that was passed
-pub passed : {B : Type 0} (t : Bool) (n : ℕ) (s : Outcome B) (b : B) → (need t n >> s) ≡ ok b → (t ≡ true) × (s ≡ ok b)
+pub passed : {B : Type 0} (t : Bool) (n : Refusal) (s : Outcome B) (b : B) → (need t n >> s) ≡ Ok b → (t ≡ true) × (s ≡ Ok b)
 unfolding ◌>>◌ need
 passed true n s b e = (refl, e)
 passed false n s b e = let z : ◌≡◌ {A = ℕ} 0 1 = cc in absurd (omega arith)
 
-pub needed : (t : Bool) (n : ℕ) → need t n ≡ ok tt → t ≡ true
+pub needed : (t : Bool) (n : Refusal) → need t n ≡ Ok tt → t ≡ true
 unfolding need
 needed true n e = refl
 needed false n e = let z : ◌≡◌ {A = ℕ} 0 1 = cc in absurd (omega arith)
+
+-- a callee's answer that was matched: what it says of the definition that the callee meets
+pub seen : {A : Type 0} {r r' s : A} → r ≡ s → r ≡ r' → s ≡ r'
+seen e g = sym e ∙ g

@@ -1,11 +1,9 @@
 -- "Regions lie in table order, at most 4,096 cells." 10: "over 4,096 cells".
-use Rattle.std.specs.Prelude.{ℕ, List, leb}
+use Rattle.std.specs.Prelude.{ℕ, List, leb, Ok}
 use Rattle.tables.specs.Refusal.{too_many_cells}
-use Rattle.tables.specs.Outcome.{Outcome, ok, refuse, ◌>>◌, need}
+use Rattle.tables.specs.Outcome.{Outcome, ◌>>◌, need}
 use Rattle.tables.specs.Rows.{region_rows, region_length}
 use Rattle.tables.specs.Sum.{sum_to}
-use Rattle.tables.specs.declared.cells.Cells.{Cells}
-use Rattle.tables.specs.declared.cells.Cells.TheVariants.{Count, TooMany}
 
 -- "at most 4,096 cells"
 abbrev pub cell_limit : ℕ
@@ -28,9 +26,4 @@ unfoldable pub cell_count : List ℕ → ℕ
 cell_count regions = first_cell regions (region_rows regions)
 
 unfoldable pub cells_of : List ℕ → Outcome ℕ
-cells_of regions = need (leb (cell_count regions) cell_limit) too_many_cells >> ok (cell_count regions)
-
--- the answer `Cells` of the code
-abbrev pub cells_outcome : Cells → Outcome ℕ
-cells_outcome (Count n) = ok n
-cells_outcome TooMany = refuse too_many_cells
+cells_of regions = need (leb (cell_count regions) cell_limit) too_many_cells >> Ok (cell_count regions)

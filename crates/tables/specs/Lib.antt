@@ -1,6 +1,5 @@
 pub mod Refusal
 pub mod Outcome
-pub mod Look
 pub mod First
 pub mod Sum
 pub mod Cases

@@ -1,17 +1,12 @@
 // Refusal 10: the number of cells.
 ghost use Rattle.std.specs.Prelude.{◌≡◌, ◌<◌};
 ghost use Rattle.tables.specs.Rows.{region_rows};
-ghost use Rattle.tables.specs.Cells.{cells_in, cells_of, cells_outcome};
+ghost use Rattle.tables.specs.Cells.{cells_in, cells_of};
 
+use crate::refusal::Refusal;
 use crate::rows::{REGION_WIDTH, region_at};
 
 pub const CELL_LIMIT: usize = 4096;
-
-#[derive(Drop)]
-pub enum Cells {
-    Count(usize),
-    TooMany,
-}
 
 // What a region adds to the memory.
 pub fn cells_in(regions: &[u64], r: usize) -> usize
@@ -23,8 +18,8 @@ pub fn cells_in(regions: &[u64], r: usize) -> usize
 }
 
 // The sum of what the regions add. It never passes the limit, so it cannot wrap.
-pub fn cell_count(regions: &[u64]) -> Cells
-    ensures { cells_outcome result ≡ cells_of regions.now }
+pub fn cell_count(regions: &[u64]) -> Result<usize, Refusal>
+    ensures { result ≡ cells_of regions.now }
 {
     let rows = regions.len() / REGION_WIDTH;
     let mut cells: usize = 0;
@@ -32,10 +27,10 @@ pub fn cell_count(regions: &[u64]) -> Cells
     while i < rows {
         let own = cells_in(regions, i);
         if CELL_LIMIT - cells < own {
-            return Cells::TooMany;
+            return Err(Refusal::TooManyCells);
         }
         cells += own;
         i += 1;
     }
-    Cells::Count(cells)
+    Ok(cells)
 }

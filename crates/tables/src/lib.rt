@@ -6,7 +6,6 @@ pub mod argument_form;
 pub mod cells;
 pub mod ends;
 pub mod family;
-pub mod look;
 pub mod lookup;
 pub mod node_tag;
 pub mod operator;

@@ -1,19 +1,13 @@
 // Lookup of a row by its name, the row's first word.
 ghost use Rattle.std.specs.Prelude.{◌≡◌, ◌||◌, ◌<◌, ◌≤◌, ◌+◌, ◌-◌, ◌*◌, ◌%◌, eqb, length};
-ghost use Rattle.tables.specs.Lookup.{name_at, lookup_from, lookup_among, lookup_of, lookup_region, lookup_extern, is_at, distinct};
+ghost use Rattle.std.specs.Option.{is_some};
+ghost use Rattle.tables.specs.Lookup.{name_at, lookup_from, lookup_among, lookup_of, lookup_region, lookup_extern, distinct};
 ghost use Rattle.tables.specs.Marks.{mark_of, Marked};
 
 use crate::rows::{EXTERN_WIDTH, REGION_WIDTH};
 
 // How many marks there are: a prime, so that names at equal steps have different ones.
 const MARKS: u64 = 251;
-
-// Where a name is declared.
-#[derive(Drop)]
-pub enum Found {
-    At(usize),
-    Nothing,
-}
 
 // Whether row i has that name.
 fn has_name(table: &[u64], width: usize, i: usize, name: u64) -> bool
@@ -49,28 +43,28 @@ fn pass_fours(table: &[u64], width: usize, rows: usize, name: u64) -> usize
 }
 
 // The first of the first `rows` rows with that name.
-fn lookup_among(table: &[u64], width: usize, rows: usize, name: u64) -> Found
+fn lookup_among(table: &[u64], width: usize, rows: usize, name: u64) -> Option<usize>
     requires { (0 < width) × (rows * width ≤ length table.now) }
     ensures { result ≡ lookup_among width table.now name rows }
 {
     let mut i = pass_fours(table, width, rows, name);
     while i < rows {
         if has_name(table, width, i, name) {
-            return Found::At(i);
+            return Some(i);
         }
         i += 1;
     }
-    Found::Nothing
+    None
 }
 
-pub fn lookup_region(regions: &[u64], name: u64) -> Found
+pub fn lookup_region(regions: &[u64], name: u64) -> Option<usize>
     ensures { result ≡ lookup_region regions.now name }
 {
     let rows = regions.len() / REGION_WIDTH;
     lookup_among(regions, REGION_WIDTH, rows, name)
 }
 
-pub fn lookup_extern(externs: &[u64], name: u64) -> Found
+pub fn lookup_extern(externs: &[u64], name: u64) -> Option<usize>
     ensures { result ≡ lookup_extern externs.now name }
 {
     let rows = externs.len() / EXTERN_WIDTH;
@@ -87,17 +81,13 @@ fn mark(name: u64) -> usize
 // Whether an earlier row has row i's name. They are looked through only where one of them has its mark.
 fn named_before(table: &[u64], width: usize, marks: &[bool], i: usize) -> bool
     requires { (0 < width) × (i * width < length table.now) × Marked width table.now marks.now i }
-    ensures { result ≡ is_at (lookup_among width table.now (name_at width table.now i) i) }
+    ensures { result ≡ is_some (lookup_among width table.now (name_at width table.now i) i) }
 {
     let name = table[i * width];
     if !marks[mark(name)] {
         return false;
     }
-    let earlier = lookup_among(table, width, i, name);
-    match earlier {
-        Found::At(_) => true,
-        Found::Nothing => false,
-    }
+    lookup_among(table, width, i, name).is_some()
 }
 
 // Whether no two rows have one name: no row has the name of an earlier one.

@@ -1,58 +1,58 @@
-// 01's and 02's refusals by number, as specs/Refusal.antt names them.
+// 01's and 02's refusals, as specs/Refusal.antt names and numbers them.
+ghost use Rattle.std.specs.Prelude.{◌≡◌};
 
-// The loader's.
-pub const TABLE_SHAPE: u64 = 1;
+#[derive(Clone, Copy, PartialEq, Eq, Debug)]
+pub enum Refusal {
+    // The loader's.
+    TableShape = 1,
+    WordNotAllowed = 2,
+    NameTwice = 3,
+    BufferSize = 4,
 
-pub const WORD_NOT_ALLOWED: u64 = 2;
+    // The program's author's.
+    TypeError = 5,
+    ExternNotFound = 6,
+    ArgumentCount = 7,
+    ArgumentErrors = 8,
+    OtherInstruction = 9,
+    TooManyCells = 10,
 
-pub const NAME_TWICE: u64 = 3;
+    // The student's.
+    AtEnd = 11,
+    NothingToTakeBack = 12,
+    JournalFull = 13,
 
-pub const BUFFER_SIZE: u64 = 4;
+    // The running program's.
+    IndexPastLength = 14,
+    ZeroDivisor = 15,
+    NegativeShiftCount = 16,
 
-// The program's author's.
-pub const TYPE_ERROR: u64 = 5;
+    // The extern routine's.
+    UnfitReply = 17,
 
-pub const EXTERN_NOT_FOUND: u64 = 6;
+    // A foreign writer's.
+    NoRule = 18,
+    ForeignPosition = 19,
 
-pub const ARGUMENT_COUNT: u64 = 7;
+    // The program's author's, by 02.
+    UnfitLabels = 20,
+    ConditionNotBit = 21,
+    UnfitConversion = 22,
 
-pub const ARGUMENT_ERRORS: u64 = 8;
+    // The running program's, by 02.
+    OutsideInteger = 23,
 
-pub const OTHER_INSTRUCTION: u64 = 9;
+    // The program's author's, by 02.
+    UnfitLiteral = 24,
+}
 
-pub const TOO_MANY_CELLS: u64 = 10;
+impl Refusal {
+    ghost use Rattle.tables.specs.Refusal.{refusal_number};
 
-// The student's.
-pub const AT_END: u64 = 11;
-
-pub const NOTHING_TO_TAKE_BACK: u64 = 12;
-
-pub const JOURNAL_FULL: u64 = 13;
-
-// The running program's.
-pub const INDEX_PAST_LENGTH: u64 = 14;
-
-pub const ZERO_DIVISOR: u64 = 15;
-
-pub const NEGATIVE_SHIFT_COUNT: u64 = 16;
-
-// The extern routine's.
-pub const UNFIT_REPLY: u64 = 17;
-
-// A foreign writer's.
-pub const NO_RULE: u64 = 18;
-
-pub const FOREIGN_POSITION: u64 = 19;
-
-// The program's author's, by 02.
-pub const UNFIT_LABELS: u64 = 20;
-
-pub const CONDITION_NOT_BIT: u64 = 21;
-
-pub const UNFIT_CONVERSION: u64 = 22;
-
-// The running program's, by 02.
-pub const OUTSIDE_INTEGER: u64 = 23;
-
-// The program's author's, by 02.
-pub const UNFIT_LITERAL: u64 = 24;
+    // The papers' number, as the C interface and the page of refusals have it.
+    pub fn number(self) -> u64
+        ensures { result ≡ refusal_number self }
+    {
+        self as u64
+    }
+}
