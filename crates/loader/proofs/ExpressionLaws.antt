@@ -1,4 +1,5 @@
 -- One pass over an expression's nodes says what the rules of words and of trees say. Assumes nothing.
+use Rattle.std.specs.Prelude.{Some, None}
 use Prim.Native.Nat.{ℕ, zero, suc, ◌+◌, ◌-◌, ◌<◌, ◌≤◌}
 use mathlib.Core.Bool.{Bool, true, false, not, cond, ◌&&◌}
 use mathlib.Core.List.{List}
@@ -20,7 +21,6 @@ use Rattle.loader.specs.Load.{load_nodes_look}
 use Rattle.word_rules.specs.Allowed.{node_allowed, nodes_allowed_from, nodes_allowed}
 use Rattle.word_rules.specs.Children.{children_of}
 use Rattle.loader.specs.Expression.{trees_allowed}
-use Rattle.word_rules.specs.declared.children.Children.TheVariants.{Count, Refused}
 use Rattle.word_rules.proofs.ChildrenLaws.{children_count, children_refused}
 
 module _ (nodes : List ℕ) (trees i n : ℕ) where
@@ -29,7 +29,7 @@ module _ (nodes : List ℕ) (trees i n : ℕ) where
   pass_stop h e = rw (trees_stop nodes trees i n h e) (and_false (nodes_allowed_from nodes i (n - i)))
 
   -- and at a node that is not allowed
-  pub pass-refused : {x : Node} → x ≡ node_at nodes i → Refused ≡ children_of x → i < n → trees_allowed nodes trees i (n - i) ≡ false
+  pub pass-refused : {x : Node} → x ≡ node_at nodes i → None ≡ children_of x → i < n → trees_allowed nodes trees i (n - i) ≡ false
   pass-refused e f h =
       let q : node_allowed (node_at nodes i) ≡ false = children_refused (node_at nodes i) (f ∙ ap children_of e) in
       rw (first_hit (λ k. not (node_allowed (node_at nodes k))) (λ k. false) true n i h (ap not q))
@@ -39,7 +39,7 @@ module _ (nodes : List ℕ) (trees i n : ℕ) where
   pass-turn h t e = rw (first_miss (λ k. not (node_allowed (node_at nodes k))) (λ k. false) true n i h (ap not e), trees_step nodes trees i n h t)
 
   -- a turn leaves the trees of the node's children in its tree's place
-  pub pass-left : {x : Node} (c : ℕ) → x ≡ node_at nodes i → Count c ≡ children_of x → i < n → (trees ≡ 0 → ⊥)
+  pub pass-left : {x : Node} (c : ℕ) → x ≡ node_at nodes i → Some c ≡ children_of x → i < n → (trees ≡ 0 → ⊥)
       → trees_allowed nodes (trees - 1 + c) (i + 1) (n - (i + 1)) ≡ trees_allowed nodes trees i (n - i)
   pass-left c e f h t = let (a, b) = children_count (node_at nodes i) c (f ∙ ap children_of e) in rw b (sym (pass-turn h t a))
 

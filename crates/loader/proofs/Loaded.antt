@@ -1,4 +1,5 @@
 -- What tables are that the loader accepts: the facts that the layers above cite. Assumes nothing.
+use Rattle.std.specs.Prelude.{Ok}
 use Prim.Native.Nat.{ℕ, ◌+◌, ◌/◌, ◌%◌, ◌<◌, ◌≤◌}
 use mathlib.Core.Bool.{Bool, true, ◌&&◌}
 use mathlib.Core.List.{List}
@@ -6,7 +7,6 @@ use mathlib.Core.Path.{◌≡◌}
 use lib.ListN.{length}
 use lib.Dec.{eqb, ltb, leb}
 use borrow.Author.Tests.{ltb-true, leb-true, eqb-true}
-use Rattle.tables.specs.Outcome.{ok}
 use Rattle.tables.specs.Tables.{Tables}
 use Rattle.tables.specs.Rows as R
 use Rattle.tables.specs.Family as family
@@ -24,14 +24,14 @@ pub record Loaded (t : Tables) : Type 0 where
   pub allowed : allowed_tables t ≡ true
   pub distinct : distinct_names t.regions t.externs ≡ true
 
-pub loaded : (t : Tables) → load_look t ≡ ok tt → Loaded t
+pub loaded : (t : Tables) → load_look t ≡ Ok tt → Loaded t
 unfolding load_look
 loaded t e =
     let (w, e₁) = passed (whole_tables t) _ _ _ e in
     let (a, e₂) = passed (allowed_tables t) _ _ _ e₁ in
     record { whole = w; allowed = a; distinct = needed (distinct_names t.regions t.externs) _ e₂ }
 
-pub loaded_row : (t : Tables) (row family : ℕ) → load_row_look t row family ≡ ok tt → Loaded t × (chosen_row t.instructions row family ≡ true)
+pub loaded_row : (t : Tables) (row family : ℕ) → load_row_look t row family ≡ Ok tt → Loaded t × (chosen_row t.instructions row family ≡ true)
 unfolding load_row_look
 loaded_row t row family e =
     let (w, e₁) = passed (whole_tables t) _ _ _ e in
@@ -39,7 +39,7 @@ loaded_row t row family e =
     let (c, e₃) = passed (chosen_row t.instructions row family) _ _ _ e₂ in
     (record { whole = w; allowed = a; distinct = needed (distinct_names t.regions t.externs) _ e₃ }, c)
 
-pub loaded_nodes : (nodes : List ℕ) (first count : ℕ) → load_nodes_look nodes first count ≡ ok tt → one_tree nodes first count ≡ true
+pub loaded_nodes : (nodes : List ℕ) (first count : ℕ) → load_nodes_look nodes first count ≡ Ok tt → one_tree nodes first count ≡ true
 unfolding load_nodes_look
 loaded_nodes nodes first count e =
     let (w, e₁) = passed (whole_rows R.node_width 2048 nodes) _ _ _ e in

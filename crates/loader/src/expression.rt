@@ -8,7 +8,7 @@ ghost use Rattle.loader.specs.Expression.{trees_allowed};
 use tables::rows::{NODE_WIDTH, node_at};
 use tables::tree::range_inside;
 use word_rules::allowed::nodes_allowed;
-use word_rules::children::{Children, children_of};
+use word_rules::children::children_of;
 
 // Whether the rows from `first` to before `end` are allowed and exactly one tree.
 fn tree_allowed(nodes: &[u64], first: usize, end: usize) -> bool
@@ -21,7 +21,7 @@ fn tree_allowed(nodes: &[u64], first: usize, end: usize) -> bool
         if trees == 0 {
             return false;
         }
-        let Children::Count(children) = children_of(node_at(nodes, i)) else {
+        let Some(children) = children_of(node_at(nodes, i)) else {
             return false;
         };
         trees = trees - 1 + children;

@@ -2,14 +2,12 @@
 ghost use Rattle.std.specs.Prelude.{◌≡◌, ◌≤◌};
 ghost use Rattle.tables.specs.Rows.{node_limit, node_rows};
 ghost use Rattle.tables.specs.Tables.{tables_of};
-ghost use Rattle.tables.specs.Look.{look_outcome};
 ghost use Rattle.loader.specs.Load.{allowed_tables, distinct_names, chosen_row, load_look, load_row_look, load_nodes_look};
 
 use crate::expression::expression_allowed;
 use crate::shape::{whole_rows, whole_tables};
-use tables::look::Look;
 use tables::lookup::distinct_names;
-use tables::refusal::{NAME_TWICE, TABLE_SHAPE, WORD_NOT_ALLOWED};
+use tables::refusal::Refusal;
 use tables::rows::{
     ARGUMENT_WIDTH, EXTERN_WIDTH, INSTRUCTION_WIDTH, NODE_LIMIT, NODE_WIDTH, PARAMETER_WIDTH,
     REGION_WIDTH,
@@ -67,19 +65,19 @@ pub fn load_tables(
     nodes: &[u64],
     arguments: &[u64],
     instructions: &[u64],
-) -> Look
-    ensures { look_outcome result ≡ load_look (tables_of regions.now externs.now parameters.now nodes.now arguments.now instructions.now) }
+) -> Result<(), Refusal>
+    ensures { result ≡ load_look (tables_of regions.now externs.now parameters.now nodes.now arguments.now instructions.now) }
 {
     if !whole_tables(regions, externs, parameters, nodes, arguments, instructions) {
-        return Look::Refused(TABLE_SHAPE);
+        return Err(Refusal::TableShape);
     }
     if !allowed_tables(regions, externs, parameters, nodes, arguments, instructions) {
-        return Look::Refused(WORD_NOT_ALLOWED);
+        return Err(Refusal::WordNotAllowed);
     }
     if !distinct_tables(regions, externs) {
-        return Look::Refused(NAME_TWICE);
+        return Err(Refusal::NameTwice);
     }
-    Look::Accepted
+    Ok(())
 }
 
 // For the calls that take a row: it must be there, of the family.
@@ -92,33 +90,33 @@ pub fn load_row(
     instructions: &[u64],
     row: usize,
     family: u64,
-) -> Look
-    ensures { look_outcome result ≡ load_row_look (tables_of regions.now externs.now parameters.now nodes.now arguments.now instructions.now) row family }
+) -> Result<(), Refusal>
+    ensures { result ≡ load_row_look (tables_of regions.now externs.now parameters.now nodes.now arguments.now instructions.now) row family }
 {
     if !whole_tables(regions, externs, parameters, nodes, arguments, instructions) {
-        return Look::Refused(TABLE_SHAPE);
+        return Err(Refusal::TableShape);
     }
     if !allowed_tables(regions, externs, parameters, nodes, arguments, instructions) {
-        return Look::Refused(WORD_NOT_ALLOWED);
+        return Err(Refusal::WordNotAllowed);
     }
     if !chosen_row(instructions, row, family) {
-        return Look::Refused(WORD_NOT_ALLOWED);
+        return Err(Refusal::WordNotAllowed);
     }
     if !distinct_tables(regions, externs) {
-        return Look::Refused(NAME_TWICE);
+        return Err(Refusal::NameTwice);
     }
-    Look::Accepted
+    Ok(())
 }
 
 // The nodes alone, with a chosen range that must be one tree.
-pub fn load_nodes(nodes: &[u64], first: u64, count: u64) -> Look
-    ensures { look_outcome result ≡ load_nodes_look nodes.now first count }
+pub fn load_nodes(nodes: &[u64], first: u64, count: u64) -> Result<(), Refusal>
+    ensures { result ≡ load_nodes_look nodes.now first count }
 {
     if !whole_rows(nodes, NODE_WIDTH, NODE_LIMIT) {
-        return Look::Refused(TABLE_SHAPE);
+        return Err(Refusal::TableShape);
     }
     if !expression_allowed(nodes, first, count) {
-        return Look::Refused(WORD_NOT_ALLOWED);
+        return Err(Refusal::WordNotAllowed);
     }
-    Look::Accepted
+    Ok(())
 }

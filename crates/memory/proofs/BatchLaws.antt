@@ -1,4 +1,5 @@
 -- Laws of the walk by lists: a loop that fills a list, from its start to its end. Assumes nothing.
+use Rattle.std.specs.Prelude.{Some, None}
 use Prim.Native.Nat.{ℕ, zero, suc, ◌+◌, ◌-◌, ◌*◌, ◌<◌, ◌≤◌}
 use mathlib.Core.List.{List, [], ◌∷◌}
 use mathlib.Core.Path.{◌≡◌, refl, sym, ap, ◌∙◌}
@@ -9,8 +10,6 @@ use Rattle.tables.proofs.FirstLaws.{left_suc}
 use Rattle.memory.specs.References.{next_of}
 use Rattle.memory.specs.Batch.{Batch, step_then, batch_of, reference_width, reference_words, rows_words, room_of, Handing, handing, hand_out}
 use Rattle.memory.specs.declared.MemoryReference.{MemoryReference}
-use Rattle.memory.specs.declared.Next.{Next}
-use Rattle.memory.specs.declared.Next.TheVariants.{Reference, End}
 use Rattle.memory.specs.declared.Stepped.{Stepped}
 
 -- a batch whose rows come after `count` rows of the list
@@ -46,12 +45,12 @@ module _ (nodes : List ℕ) (room place count : ℕ) (rows : List ℕ) where
     step = rw (left_suc room count h, e)
 
     -- the end
-    pub left_end : s.found ≡ End → left_from nodes room place count rows ≡ handing (record { count = count; place = s.place }) rows
+    pub left_end : s.found ≡ None → left_from nodes room place count rows ≡ handing (record { count = count; place = s.place }) rows
     unfolding rows_words
     left_end f = step ∙ (let z : count + 0 ≡ count = omega arith in rw (f, z))
 
     -- a reference goes into the list's next row, whose first word is at
-    pub left-turn : (r : MemoryReference) (at : ℕ) → s.found ≡ Reference r → at ≡ count * reference_width
+    pub left-turn : (r : MemoryReference) (at : ℕ) → s.found ≡ Some r → at ≡ count * reference_width
         → left_from nodes room place count rows ≡ left_from nodes room s.place (count + 1) (sets rows at (reference_words r))
     unfolding rows_words
     left-turn r at f w =

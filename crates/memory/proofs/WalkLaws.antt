@@ -1,4 +1,5 @@
 -- What the calls of a walk hand out, one after the other. Assumes nothing.
+use Rattle.std.specs.Prelude.{Option, Some, None}
 use Prim.Native.Nat.{ℕ, zero, suc, ◌+◌, ◌-◌, ◌*◌, ◌<◌, ◌≤◌}
 use mathlib.Core.Bool.{Bool, true, false, cond}
 use mathlib.Core.List.{List, [], ◌∷◌}
@@ -13,8 +14,6 @@ use Rattle.memory.specs.References.{is_address, reference_at, references, row_re
 use Rattle.memory.specs.Batch.{Batch, step_then, batch_of, batch_in}
 use Rattle.memory.specs.Walk.{kth_call, kth_of, Walk, going_on, Batches}
 use Rattle.memory.specs.declared.MemoryReference.{MemoryReference}
-use Rattle.memory.specs.declared.Next.{Next}
-use Rattle.memory.specs.declared.Next.TheVariants.{Reference, End}
 use Rattle.memory.specs.declared.Stepped.{Stepped}
 use Rattle.memory.proofs.ReferenceLaws.{one_tree-inside, references_by_row}
 
@@ -23,14 +22,14 @@ abbrev rest : List ℕ → ℕ → List MemoryReference
 rest nodes place = row_references nodes place (node_rows nodes - place)
 
 -- what a step says of the addresses at or after the place that it was made from
-abbrev told : List ℕ → Next → ℕ → List MemoryReference
-told nodes (Reference r) place = r ∷ rest nodes place
-told nodes End place = []
+abbrev told : List ℕ → Option MemoryReference → ℕ → List MemoryReference
+told nodes (Some r) place = r ∷ rest nodes place
+told nodes None place = []
 
 -- a step where these addresses are left: it hands out the first of them, and leads past the rows where there is none
 record Step (nodes : List ℕ) (left : List MemoryReference) (s : Stepped) : Type 0 where
   says : left ≡ told nodes s.found s.place
-  over : s.found ≡ End → s ≡ ended nodes
+  over : s.found ≡ None → s ≡ ended nodes
 
 step_or_skip : (nodes : List ℕ) (b : Bool) (i n : ℕ) (s : Stepped) → suc n ≡ node_rows nodes - i → Step nodes (row_references nodes (i + 1) n) s
     → Step nodes (cond b (reference_at nodes i ∷ row_references nodes (i + 1) n) (row_references nodes (i + 1) n)) (cond b (handed_out nodes i) s)
@@ -51,15 +50,15 @@ unfolding next_of
 next-step nodes place = step_from nodes place (node_rows nodes - place) refl
 
 -- the k-th of the addresses left, by one step
-told_first : (nodes : List ℕ) (s : Next) (p : ℕ) → s ≡ kth_of (told nodes s p) 0
+told_first : (nodes : List ℕ) (s : Option MemoryReference) (p : ℕ) → s ≡ kth_of (told nodes s p) 0
 unfolding kth_of
-told_first nodes (Reference r) p = refl
-told_first nodes End p = refl
+told_first nodes (Some r) p = refl
+told_first nodes None p = refl
 
-told_later : (nodes : List ℕ) (s : Next) (p k : ℕ) → (s ≡ End → p ≡ node_rows nodes) → kth_of (rest nodes p) k ≡ kth_of (told nodes s p) (suc k)
+told_later : (nodes : List ℕ) (s : Option MemoryReference) (p k : ℕ) → (s ≡ None → p ≡ node_rows nodes) → kth_of (rest nodes p) k ≡ kth_of (told nodes s p) (suc k)
 unfolding kth_of row_references
-told_later nodes (Reference r) p k h = refl
-told_later nodes End p k h = let e : p ≡ node_rows nodes = h refl in let z : node_rows nodes - p ≡ 0 = omega arith in rw z
+told_later nodes (Some r) p k h = refl
+told_later nodes None p k h = let e : p ≡ node_rows nodes = h refl in let z : node_rows nodes - p ≡ 0 = omega arith in rw z
 
 -- the k-th call hands out the k-th address at or after the place, and past the last the end
 calls_by_row : (nodes : List ℕ) (place k : ℕ) → kth_call (next_of nodes) place k ≡ kth_of (rest nodes place) k
@@ -78,10 +77,10 @@ unfolding batch_of next_of first
 batch_ended nodes zero = refl
 batch_ended nodes (suc room) = let z : node_rows nodes - node_rows nodes ≡ 0 = omega arith in rw z
 
-told_batch : (nodes : List ℕ) (room : ℕ) (s : Next) (p : ℕ) → (batch_of nodes p room).references ≡ take room (rest nodes p)
+told_batch : (nodes : List ℕ) (room : ℕ) (s : Option MemoryReference) (p : ℕ) → (batch_of nodes p room).references ≡ take room (rest nodes p)
     → (step_then s p (λ q. batch_of nodes q room)).references ≡ take (suc room) (told nodes s p)
-told_batch nodes room (Reference r) p e = ap (λ l. r ∷ l) e
-told_batch nodes room End p e = refl
+told_batch nodes room (Some r) p e = ap (λ l. r ∷ l) e
+told_batch nodes room None p e = refl
 
 -- a list gets the addresses at or after the place, as many as it has room for
 batch_by_row : (nodes : List ℕ) (place room : ℕ) → (batch_of nodes place room).references ≡ take room (rest nodes place)
@@ -91,11 +90,11 @@ batch_by_row nodes place (suc room) =
     told_batch nodes room (next_of nodes place).found (next_of nodes place).place (batch_by_row nodes (next_of nodes place).place room) ∙
     ap (take (suc room)) (sym (next-step nodes place).says)
 
-step_goes_on : (nodes : List ℕ) (a b : ℕ) (s : Next) (p : ℕ) → (s ≡ End → p ≡ node_rows nodes)
+step_goes_on : (nodes : List ℕ) (a b : ℕ) (s : Option MemoryReference) (p : ℕ) → (s ≡ None → p ≡ node_rows nodes)
     → batch_of nodes p (a + b) ≡ going_on (batch_of nodes p a) (λ q. batch_of nodes q b)
     → step_then s p (λ q. batch_of nodes q (a + b)) ≡ going_on (step_then s p (λ q. batch_of nodes q a)) (λ q. batch_of nodes q b)
-step_goes_on nodes a b (Reference r) p h e = ap (λ (x : Batch). record { references = r ∷ x.references; place = x.place }) e
-step_goes_on nodes a b End p h e = rw (h refl, batch_ended nodes b)
+step_goes_on nodes a b (Some r) p h e = ap (λ (x : Batch). record { references = r ∷ x.references; place = x.place }) e
+step_goes_on nodes a b None p h e = rw (h refl, batch_ended nodes b)
 
 batch_goes_on : (nodes : List ℕ) (a place b : ℕ) → batch_of nodes place (a + b) ≡ going_on (batch_of nodes place a) (λ p. batch_of nodes p b)
 unfolding batch_of
@@ -145,7 +144,7 @@ module _ (nodes : List ℕ) (i n : ℕ) (one : one_tree nodes i n ≡ true) wher
   calls-references k = calls_by_row (nodes_in nodes i n) 0 k ∙ ap (λ l. kth_of l k) all_in
 
   -- a place past the tree is the end
-  past_tree : (place : ℕ) → n ≤ place → next_in nodes i n place ≡ record { found = End; place = n }
+  past_tree : (place : ℕ) → n ≤ place → next_in nodes i n place ≡ record { found = None; place = n }
   unfolding next_in next_of first
   past_tree place h = let z : node_rows (nodes_in nodes i n) - place ≡ 0 = omega (arith, rows_in) in rw (z, rows_in)
 
@@ -155,7 +154,7 @@ module _ (nodes : List ℕ) (i n : ℕ) (one : one_tree nodes i n ≡ true) wher
     step_in = rw e (next-step (nodes_in nodes i n) place)
 
     -- an end for good: the call after it gives the same again
-    end_for_good : s.found ≡ End → next_in nodes i n s.place ≡ s
+    end_for_good : s.found ≡ None → next_in nodes i n s.place ≡ s
     end_for_good f = rw (step_in.over f) (past_tree (node_rows (nodes_in nodes i n)) (omega (arith, rows_in)) ∙ rw rows_in)
 
   -- THE WALK of Walk.antt, of a range that is exactly one tree

@@ -1,10 +1,8 @@
 -- The walk by lists: the next references of an expression go into a lent list, as many as fit, with the place to go on from.
-use Rattle.std.specs.Prelude.{ℕ, zero, suc, ◌/◌, List, [], ◌∷◌, length}
+use Rattle.std.specs.Prelude.{ℕ, zero, suc, ◌/◌, List, [], ◌∷◌, length, Option, Some, None}
 use Rattle.std.proofs.lemmas.List.Edits.{sets}
 use Rattle.memory.specs.References.{next_of, nodes_in}
 use Rattle.memory.specs.declared.MemoryReference.{MemoryReference}
-use Rattle.memory.specs.declared.Next.{Next}
-use Rattle.memory.specs.declared.Next.TheVariants.{Reference, End}
 use Rattle.memory.specs.declared.batch.Handed.{Handed}
 
 -- the references that were handed out, and the place to go on from
@@ -13,9 +11,9 @@ pub record Batch : Type 0 where
   pub place : ℕ
 
 -- a step, and what its place leads to: a reference comes before those, and at the end there are none
-abbrev pub step_then : Next → ℕ → (ℕ → Batch) → Batch
-step_then (Reference r) place rest = record { references = r ∷ (rest place).references; place = (rest place).place }
-step_then End place rest = record { references = []; place = place }
+abbrev pub step_then : Option MemoryReference → ℕ → (ℕ → Batch) → Batch
+step_then (Some r) place rest = record { references = r ∷ (rest place).references; place = (rest place).place }
+step_then None place rest = record { references = []; place = place }
 
 -- as many steps of the walk as there is room for, up to the first end
 unfoldable pub batch_of : List ℕ → ℕ → ℕ → Batch

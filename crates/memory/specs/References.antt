@@ -1,11 +1,10 @@
 -- 01, "Reference walk": "As `MemoryReferences`, a reader over the lent nodes hands out the next reference, left to right, repeats kept, then an end for good."
-use Rattle.std.specs.Prelude.{ℕ, zero, suc, ◌+◌, ◌-◌, ◌*◌, Bool, cond, List, [], ◌∷◌, ◌++◌, take, drop, eqb}
+use Rattle.std.specs.Prelude.{ℕ, zero, suc, ◌+◌, ◌-◌, ◌*◌, Bool, cond, List, [], ◌∷◌, ◌++◌, take, drop, eqb, Some, None}
 use Rattle.tables.specs.First.{first}
 use Rattle.tables.specs.NodeTag as tag
 use Rattle.tables.specs.Rows.{node_rows, node_tag, node_at, node_width}
 use Rattle.tables.specs.Tree.{arity_of}
 use Rattle.memory.specs.declared.MemoryReference.{MemoryReference}
-use Rattle.memory.specs.declared.Next.TheVariants.{Reference, End}
 use Rattle.memory.specs.declared.Stepped.{Stepped}
 
 -- "0 address (name, index)"
@@ -53,11 +52,11 @@ row_references nodes i (suc n) =
 
 -- row i is handed out, and the place is after it
 abbrev pub handed_out : List ℕ → ℕ → Stepped
-handed_out nodes i = record { found = Reference (reference_at nodes i); place = i + 1 }
+handed_out nodes i = record { found = Some (reference_at nodes i); place = i + 1 }
 
 -- the place is past the rows, so the end is for good (Walk.antt)
 abbrev pub ended : List ℕ → Stepped
-ended nodes = record { found = End; place = node_rows nodes }
+ended nodes = record { found = None; place = node_rows nodes }
 
 -- among the n rows from row i on
 abbrev pub next_from : List ℕ → ℕ → ℕ → Stepped

@@ -1,21 +1,19 @@
 -- What is claimed of a walk. 01, "Reference walk": "hands out the next reference, left to right, repeats kept, then an end for good". Proved of every range that is exactly one tree: `tree_walk` and `tree_batches` in proofs/WalkLaws.antt.
-use Rattle.std.specs.Prelude.{ℕ, zero, suc, ◌+◌, ◌≤◌, List, [], ◌∷◌, ◌++◌, ◌≡◌, length, take}
+use Rattle.std.specs.Prelude.{ℕ, zero, suc, ◌+◌, ◌≤◌, List, [], ◌∷◌, ◌++◌, ◌≡◌, length, take, Option, Some, None}
 use Rattle.memory.specs.References.{references, row_references, next_in}
 use Rattle.memory.specs.Batch.{Batch, batch_in}
 use Rattle.memory.specs.declared.MemoryReference.{MemoryReference}
-use Rattle.memory.specs.declared.Next.{Next}
-use Rattle.memory.specs.declared.Next.TheVariants.{Reference, End}
 use Rattle.memory.specs.declared.Stepped.{Stepped}
 
 -- what the k-th call hands out, from 0, where each call goes on from the place that the one before it gave
-unfoldable pub kth_call : (ℕ → Stepped) → ℕ → ℕ → Next
+unfoldable pub kth_call : (ℕ → Stepped) → ℕ → ℕ → Option MemoryReference
 kth_call next place zero = (next place).found
 kth_call next place (suc k) = kth_call next (next place).place k
 
 -- the k-th reference of a list, from 0, and past the last the end
-unfoldable pub kth_of : List MemoryReference → ℕ → Next
-kth_of [] k = End
-kth_of (r ∷ rs) zero = Reference r
+unfoldable pub kth_of : List MemoryReference → ℕ → Option MemoryReference
+kth_of [] k = None
+kth_of (r ∷ rs) zero = Some r
 kth_of (r ∷ rs) (suc k) = kth_of rs k
 
 -- of the n rows from row i on
@@ -25,7 +23,7 @@ pub record Walk (nodes : List ℕ) (i n : ℕ) : Type 0 where
   -- the k-th call from place 0 hands out the tree's k-th reference, and past the last the end
   pub calls : (k : ℕ) → kth_call (next_in nodes i n) 0 k ≡ kth_of (references nodes i n) k
   -- "an end for good": from wherever the end was told, the next call tells it again and stays
-  pub end : (place : ℕ) → (next_in nodes i n place).found ≡ End → next_in nodes i n (next_in nodes i n place).place ≡ next_in nodes i n place
+  pub end : (place : ℕ) → (next_in nodes i n place).found ≡ None → next_in nodes i n (next_in nodes i n place).place ≡ next_in nodes i n place
 
 -- a batch, and the one that goes on from its place
 abbrev pub going_on : Batch → (ℕ → Batch) → Batch

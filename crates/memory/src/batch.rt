@@ -4,7 +4,7 @@ ghost use Rattle.std.proofs.lemmas.List.Edits.{sets};
 ghost use Rattle.tables.specs.Tree.{one_tree};
 ghost use Rattle.memory.specs.Batch.{reference_width, reference_words, handing, hand_out, hand_out_in};
 
-use crate::{MemoryReference, Next, next_from};
+use crate::{MemoryReference, next_from};
 use tables::rows::NODE_WIDTH;
 
 // Words in a row of a list of references: name, index.
@@ -37,7 +37,7 @@ fn references_from(nodes: &[u64], place: usize, rows: &mut [u64]) -> Handed
         let stepped = next_from(nodes, passed);
         let found = stepped.found;
         passed = stepped.place;
-        let Next::Reference(reference) = found else {
+        let Some(reference) = found else {
             return Handed {
                 count: at / REFERENCE_WIDTH,
                 place: passed,

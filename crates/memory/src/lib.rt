@@ -18,17 +18,10 @@ pub struct MemoryReference {
     pub index: u64,
 }
 
-// What a call hands out.
-#[derive(Drop)]
-pub enum Next {
-    Reference(MemoryReference),
-    End,
-}
-
 // What was handed out, and the place to go on from: how many nodes were passed.
 #[derive(Drop)]
 pub struct Stepped {
-    pub found: Next,
+    pub found: Option<MemoryReference>,
     pub place: usize,
 }
 
@@ -47,14 +40,14 @@ fn next_at(nodes: &[u64], place: usize) -> Stepped
                 index: node.second,
             };
             return Stepped {
-                found: Next::Reference(reference),
+                found: Some(reference),
                 place: i + 1,
             };
         }
         i += 1;
     }
     Stepped {
-        found: Next::End,
+        found: None,
         place: rows,
     }
 }
@@ -74,7 +67,7 @@ impl<'a> MemoryReferences<'a> {
     }
 
     // As the iterator's `next`: the reader is lent, and its place moves on.
-    pub fn next(&mut self) -> Next
+    pub fn next(&mut self) -> Option<MemoryReference>
         ensures { (result ≡ (step_of self.old).found) × (self.new ≡ stepped self.old) }
     {
         let stepped = next_at(self.nodes, self.place);

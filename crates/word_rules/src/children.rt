@@ -7,27 +7,21 @@ use tables::node_tag::{INFIX, VARIABLE};
 use tables::rows::Node;
 use tables::tree::arity;
 
-#[derive(Drop)]
-pub enum Children {
-    Count(usize),
-    Refused,
-}
-
 // For speed a node without words comes first, and of those an infix, of which most expressions are made.
-pub fn children_of(x: Node) -> Children
+pub fn children_of(x: Node) -> Option<usize>
     ensures { result ≡ children_of x }
 {
     if (x.first == 0) & (x.second == 0) {
         if x.tag == INFIX {
-            return Children::Count(2);
+            return Some(2);
         }
         if x.tag <= VARIABLE {
-            return Children::Count(arity(x.tag));
+            return Some(arity(x.tag));
         }
-        return Children::Refused;
+        return None;
     }
     if node_allowed(x) {
-        return Children::Count(0);
+        return Some(0);
     }
-    Children::Refused
+    None
 }

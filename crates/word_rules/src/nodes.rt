@@ -4,7 +4,7 @@ ghost use Rattle.tables.specs.Rows.{node_rows, node_limit};
 ghost use Rattle.tables.specs.Ends.{EndsFrom};
 ghost use Rattle.word_rules.specs.Allowed.{nodes_allowed};
 
-use crate::children::{Children, children_of};
+use crate::children::children_of;
 use tables::ends::tree_end;
 use tables::rows::{NODE_WIDTH, node_at};
 
@@ -19,7 +19,7 @@ pub fn nodes_end(nodes: &[u64], ends: &mut [u16]) -> bool
     ends[i] = end as u16;
     while 0 < i {
         i -= 1;
-        let Children::Count(children) = children_of(node_at(nodes, i)) else {
+        let Some(children) = children_of(node_at(nodes, i)) else {
             return false;
         };
         end = tree_end(nodes, ends, i, end, children);

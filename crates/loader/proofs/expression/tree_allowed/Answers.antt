@@ -1,8 +1,8 @@
+use Rattle.std.specs.Prelude.{Some}
 use Prim.Native.Nat.{◌-◌}
 use mathlib.Core.Path.{◌≡◌, refl, sym, ◌∙◌}
 use native.Mathlib.Omega.{arith}
 use Rattle.word_rules.specs.Children.{children_of}
-use Rattle.word_rules.specs.declared.children.Children.TheVariants.{Count}
 use Rattle.word_rules.proofs.ChildrenLaws.{children_le}
 use Rattle.loader.proofs.ExpressionLaws.{pass_stop, pass-refused, pass-left, pass-end}
 use borrow.Author.Rules.{rules}
@@ -20,12 +20,12 @@ returns-in_default c =
 
 pub overflow_add-trees : goal.overflow_add-trees
 overflow_add-trees c =
-    let counted : Count c.in-Count.children ≡ children_of c.node_at.result = sym c.in-Count.is ∙ c.children_of.ensures in
+    let counted : Some c.in-Some.children ≡ children_of c.node_at.result = sym c.in-Some.is ∙ c.children_of.ensures in
     omega (arith, children_le _ _ counted)
 
 pub loop-i-preserved : goal.loop-i-preserved
 loop-i-preserved c =
-    let counted : Count c.in-Count.children ≡ children_of c.node_at.result = sym c.in-Count.is ∙ c.children_of.ensures in
+    let counted : Some c.in-Some.children ≡ children_of c.node_at.result = sym c.in-Some.is ∙ c.children_of.ensures in
     let p = pass-left c.args.nodes.now _ c.loop-i.i c.args.end _ c.node_at.ensures counted (search rules) c.if-trees-eq0.false in
     (omega arith, omega (arith, children_le _ _ counted), p ∙ c.loop-i.invariant.2)
 

@@ -28,7 +28,7 @@ loop-at-preserved c =
       c.put_reference.auto.rows ∙ c.loop-at.invariant.0,
       omega arith,
       rw (q, c.put_reference.ensures)
-          (sym (left-turn c.args.nodes.now _ c.loop-at.passed (c.loop-at.at / 2) c.loop-at.rows _ c.next_from-stepped.ensures (omega arith) _ c.loop-at.at c.in-Reference.is e) ∙ c.loop-at.invariant.2),
+          (sym (left-turn c.args.nodes.now _ c.loop-at.passed (c.loop-at.at / 2) c.loop-at.rows _ c.next_from-stepped.ensures (omega arith) _ c.loop-at.at c.in-Some.is e) ∙ c.loop-at.invariant.2),
     )
 
 pub returns : goal.returns

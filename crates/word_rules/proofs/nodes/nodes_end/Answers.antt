@@ -1,3 +1,4 @@
+use Rattle.std.specs.Prelude.{Some}
 use Prim.Native.Nat.{ℕ, ◌+◌, ◌-◌}
 use mathlib.Core.List.{List}
 use mathlib.Core.Path.{◌≡◌, refl, sym, ap, subst, ◌∙◌}
@@ -8,7 +9,6 @@ use Rattle.tables.specs.Ends.{TreeEnd, EndsFrom}
 use Rattle.tables.proofs.FirstLaws.{never}
 use Rattle.tables.proofs.EndsLaws.{end_none, ends_none, ends_more}
 use Rattle.word_rules.specs.Children.{children_of}
-use Rattle.word_rules.specs.declared.children.Children.TheVariants.{Count}
 use Rattle.word_rules.proofs.ChildrenLaws.{children_count, children_refused}
 use Rattle.word_rules.proofs.NodesLaws.{AllowedFrom, allowed_more, allowed_all, allowed_miss}
 use borrow.Author.Rules.{rules}
@@ -35,7 +35,7 @@ tree_end-end-requires c =
     let row : ℕ = c.loop-i.i - 1 in
     let next : c.loop-i.i ≡ row + 1 = omega arith in
     let ends-after : EndsFrom nodes c.loop-i.ends (row + 1) = subst (EndsFrom nodes c.loop-i.ends) next c.loop-i.invariant.2 in
-    let counted : Count c.in-Count.children ≡ children_of (node_at nodes row) = sym c.in-Count.is ∙ (c.children_of.ensures ∙ ap children_of c.node_at.ensures) in
+    let counted : Some c.in-Some.children ≡ children_of (node_at nodes row) = sym c.in-Some.is ∙ (c.children_of.ensures ∙ ap children_of c.node_at.ensures) in
     let t : TreeEnd nodes (row + 1) c.loop-i.end = subst (λ k. TreeEnd nodes k c.loop-i.end) next c.loop-i.invariant.1 in
     (omega arith, t, ends-after, (children_count (node_at nodes row) _ counted).1)
 
@@ -69,7 +69,7 @@ loop-i-preserved c =
     let row : ℕ = c.loop-i.i - 1 in
     let next : c.loop-i.i ≡ row + 1 = omega arith in
     let ends-after : EndsFrom nodes c.loop-i.ends (row + 1) = subst (EndsFrom nodes c.loop-i.ends) next c.loop-i.invariant.2 in
-    let counted : Count c.in-Count.children ≡ children_of (node_at nodes row) = sym c.in-Count.is ∙ (c.children_of.ensures ∙ ap children_of c.node_at.ensures) in
+    let counted : Some c.in-Some.children ≡ children_of (node_at nodes row) = sym c.in-Some.is ∙ (c.children_of.ensures ∙ ap children_of c.node_at.ensures) in
     let a : AllowedFrom nodes (row + 1) = subst (AllowedFrom nodes) next c.loop-i.invariant.3 in (
       omega arith,
       c.tree_end-end.ensures,
