@@ -1,8 +1,5 @@
 -- Tests that both hold, and looks that were passed. Assumes nothing.
-use Prim.Native.Nat.{ℕ}
-use mathlib.Core.Bool.{Bool, true, false, ◌&&◌}
-use mathlib.Core.Path.{◌≡◌, refl}
-use native.Mathlib.Omega.{arith}
+use Rattle.std.proofs.Common.{ℕ, Bool, true, false, ◌&&◌, ◌≡◌, refl, arith}
 use Rattle.tables.specs.Outcome.{Outcome, ok, ◌>>◌, need}
 use Rattle.tables.proofs.FirstLaws.{never}
 

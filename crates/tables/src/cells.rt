@@ -28,14 +28,12 @@ pub fn cell_count(regions: &[u64]) -> Cells
 {
     let rows = regions.len() / REGION_WIDTH;
     let mut cells: usize = 0;
-    let mut i = 0;
-    while i < rows {
+    for i in 0..rows {
         let own = cells_in(regions, i);
         if CELL_LIMIT - cells < own {
             return Cells::TooMany;
         }
         cells += own;
-        i += 1;
     }
     Cells::Count(cells)
 }
