@@ -1,5 +1,5 @@
 -- One pass over an expression's nodes says what the rules of words and of trees say. Assumes nothing.
-use Rattle.std.specs.Prelude.{Some, None}
+use Rattle.std.proofs.Common.{Some, None}
 use Prim.Native.Nat.{ℕ, zero, suc, ◌+◌, ◌-◌, ◌<◌, ◌≤◌}
 use mathlib.Core.Bool.{Bool, true, false, not, cond, ◌&&◌}
 use mathlib.Core.List.{List}
@@ -11,6 +11,7 @@ use Rattle.tables.specs.First.{first, every_from, every}
 use Rattle.tables.specs.Refusal.{word_not_allowed}
 use Rattle.tables.specs.Rows.{node_width, node_limit, node_rows, node_tag, node_at}
 use Rattle.tables.specs.Tree.{arity_of, trees_from, inside, one_tree}
+use Rattle.tables.specs.declared.refusal.Refusal.{Refusal}
 use Rattle.tables.specs.Outcome.{◌>>◌, need}
 use Rattle.tables.specs.declared.rows.Node.{Node}
 use Rattle.tables.proofs.FirstLaws.{first_hit, first_miss, first-end}
@@ -91,11 +92,11 @@ pub outside : (nodes : List ℕ) (i n : ℕ) → inside i n (node_rows nodes) �
 unfolding one_tree
 outside nodes i n e = rw e (sym (and_false (nodes_allowed nodes)))
 
--- two looks of one number are one
-one_look : (a b : Bool) (number : ℕ) → need (a && b) number ≡ (need a number >> need b number)
+-- two looks with one refusal are one
+one_look : (a b : Bool) (r : Refusal) → need (a && b) r ≡ (need a r >> need b r)
 unfolding ◌>>◌ need
-one_look true b number = refl
-one_look false b number = refl
+one_look true b r = refl
+one_look false b r = refl
 
 -- the walk's looks at nodes in whole rows
 pub nodes_look : (nodes : List ℕ) (i n : ℕ) (b : Bool) → whole_rows node_width node_limit nodes ≡ true → b ≡ (nodes_allowed nodes && one_tree nodes i n)

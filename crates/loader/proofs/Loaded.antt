@@ -1,5 +1,5 @@
 -- What tables are that the loader accepts: the facts that the layers above cite. Assumes nothing.
-use Rattle.std.specs.Prelude.{Ok}
+use Rattle.std.proofs.Common.{Ok}
 use Prim.Native.Nat.{ℕ, ◌+◌, ◌/◌, ◌%◌, ◌<◌, ◌≤◌}
 use mathlib.Core.Bool.{Bool, true, ◌&&◌}
 use mathlib.Core.List.{List}

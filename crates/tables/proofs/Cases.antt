@@ -1,11 +1,6 @@
 -- A definition by cases at a key and past its keys, and a fact shown by cases, a line a key. Assumes nothing.
-use Prim.Native.Nat.{ℕ, ◌≤◌}
-use mathlib.Core.Bool.{Bool, true, false, cond}
-use mathlib.Core.List.{List, [], ◌∷◌}
-use mathlib.Core.Path.{◌≡◌, refl, sym, ap, subst, ◌∙◌}
+use Rattle.std.proofs.Common.{ℕ, ◌≤◌, Bool, true, false, cond, List, [], ◌∷◌, ◌≡◌, refl, sym, ap, subst, ◌∙◌, eqb, ltb, eqb-true, ne_eqb, ltb-true, ltb-false}
 use native.Mathlib.Decide.{ℕ_discrete}
-use lib.Dec.{eqb, ltb}
-use borrow.Author.Tests.{eqb-true, ne_eqb, ltb-true, ltb-false}
 use Rattle.tables.specs.Cases.{case_of}
 use Rattle.tables.specs.First.{every}
 use Rattle.tables.proofs.FirstLaws.{never, every-row}

@@ -1,13 +1,7 @@
 -- Laws of the cells' layout: where regions lie, and the number of cells by what a sum from the first region on has reached. Assumes nothing.
-use Prim.Native.Nat.{ℕ, ◌+◌, ◌<◌, ◌≤◌}
-use mathlib.Core.Bool.{Bool, true, false}
-use mathlib.Core.List.{List}
-use mathlib.Core.Path.{◌≡◌, refl, ap}
-use native.Mathlib.Omega.{arith}
-use lib.Dec.{leb}
-use borrow.Author.Tests.{le-leb, lt-leb, leb-true}
-use Rattle.std.specs.Prelude.{Ok, Err}
-use Rattle.tables.specs.Outcome.{Outcome, ◌>>◌, need}
+use Rattle.std.proofs.Common.{ℕ, ◌+◌, ◌<◌, ◌≤◌, Bool, true, false, List, ◌≡◌, refl, ap, arith, leb, le-leb, leb-true, Ok, Err}
+use borrow.Author.Tests.{lt-leb}
+use Rattle.tables.specs.Outcome.{◌>>◌, need}
 use Rattle.tables.specs.Rows.{region_rows, region_length}
 use Rattle.tables.specs.Refusal.{too_many_cells}
 use Rattle.tables.specs.Cells.{cell_limit, cells_in, first_cell, origin, cell_count, cells_of}

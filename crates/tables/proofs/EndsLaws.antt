@@ -1,14 +1,6 @@
 -- Laws of where trees end: a node's by its number of children, from the ends of the trees after it. Assumes nothing.
-use Prim.Native.Nat.{ℕ, zero, suc, ◌+◌, ◌-◌, ◌<◌, ◌≤◌}
-use mathlib.Core.Bool.{Bool, true, false}
-use mathlib.Core.List.{List}
-use mathlib.Core.Path.{◌≡◌, refl, sym, ap, ◌∙◌}
-use native.Mathlib.Omega.{arith}
+use Rattle.std.proofs.Common.{ℕ, zero, suc, ◌+◌, ◌-◌, ◌<◌, ◌≤◌, Bool, true, false, List, ◌≡◌, refl, sym, ap, ◌∙◌, arith, eq-eqb, ne_eqb, eqb-true, leb-true, leb-false, eqb, leb, get_or, set, length, length-set, get_or-set_same, get_or-set_other}
 use native.Mathlib.Decide.{ℕ_discrete}
-use borrow.Author.Tests.{eq-eqb, ne_eqb, eqb-true, leb-true, leb-false}
-use lib.Dec.{eqb, leb}
-use lib.ListN.{get_or, set, length, length-set}
-use lib.Seq.{get_or-set_same, get_or-set_other}
 use Rattle.tables.specs.Rows.{node_limit, node_rows, node_tag}
 use Rattle.tables.specs.Tree.{arity_of, trees_from}
 use Rattle.tables.specs.Ends.{TreeEnd, EndsFrom}

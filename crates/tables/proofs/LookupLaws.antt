@@ -1,16 +1,10 @@
 -- What a lookup says: the row that it found is a row of the table, with the name; where it found none, no row has the name. Assumes nothing.
-use Prim.Native.Nat.{ℕ, zero, suc, ◌+◌, ◌*◌, ◌<◌, ◌≤◌}
-use mathlib.Core.Bool.{Bool, true, false, cond}
-use mathlib.Core.List.{List}
-use mathlib.Core.Path.{◌≡◌, refl, sym, ap, ◌∙◌}
-use native.Mathlib.Omega.{arith}
+use Rattle.std.proofs.Common.{ℕ, zero, suc, ◌+◌, ◌<◌, ◌≤◌, Bool, true, false, cond, List, ◌≡◌, refl, sym, ap, ◌∙◌, arith, ne_eqb, eqb-true, eqb, Some, None}
 use native.Mathlib.Decide.{ℕ_discrete}
-use borrow.Author.Tests.{ne_eqb, eqb-true, eqb-false}
-use lib.Dec.{eqb}
+use borrow.Author.Tests.{eqb-false}
 use Rattle.tables.specs.First.{first}
 use Rattle.tables.specs.Rows.{rows_of, region_width, extern_width, region_rows, extern_rows, region_name}
 use Rattle.tables.specs.Lookup.{name_at, lookup_from, lookup_among, lookup_of, lookup_region, lookup_extern}
-use Rattle.std.specs.Prelude.{Some, None}
 
 -- the row d is one of the n rows from row i on, and has the name
 pub record Hit (width : ℕ) (xs : List ℕ) (name i n d : ℕ) : Type 0 where

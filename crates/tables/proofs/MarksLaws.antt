@@ -1,16 +1,8 @@
 -- Laws of marks: a name without its mark is no earlier row's; a row's own mark is set after it. Assumes nothing.
-use Prim.Native.Nat.{ℕ, ◌+◌, ◌%◌, ◌<◌, ◌≤◌}
-use mathlib.Core.Bool.{Bool, true, false, not}
-use mathlib.Core.List.{List}
-use mathlib.Core.Path.{◌≡◌, refl, sym, ap, ◌∙◌}
-use native.Mathlib.Omega.{arith}
-use borrow.Author.Tests.{not-true}
+use Rattle.std.proofs.Common.{ℕ, ◌+◌, ◌<◌, Bool, true, false, List, ◌≡◌, sym, ap, ◌∙◌, arith, get_or, set, length, length-set, get_or-set_same, get_or-set_other, None}
 use native.Mathlib.Decide.{ℕ_discrete}
-use lib.ListN.{get_or, set, length, length-set}
-use lib.Seq.{get_or-set_same, get_or-set_other}
 use Rattle.tables.specs.Lookup.{name_at, lookup_among}
 use Rattle.tables.specs.Marks.{mark_of, Marked}
-use Rattle.std.specs.Prelude.{Some, None}
 use Rattle.tables.proofs.FirstLaws.{never}
 use Rattle.tables.proofs.LookupLaws.{among_miss}
 
@@ -24,8 +16,8 @@ mark_within name e f = omega (arith, mark_below name, e, f)
 
 module _ (width : ℕ) (xs : List ℕ) (marks : List Bool) (n : ℕ) (m : Marked width xs marks n) where
   -- row n's name, whose mark r is not set, is no earlier row's
-  pub unmarked : {r : ℕ} → r ≡ mark_of (name_at width xs n) → not (get_or marks r false) ≡ true → lookup_among width xs (name_at width xs n) n ≡ None
-  unmarked e t = among_miss width xs _ n (λ k h q. never (sym (sym (m.set k h) ∙ (ap (λ name. get_or marks (mark_of name) false) q ∙ (ap (λ r. get_or marks r false) (sym e) ∙ not-true _ t)))))
+  pub unmarked : {r : ℕ} → r ≡ mark_of (name_at width xs n) → get_or marks r false ≡ false → lookup_among width xs (name_at width xs n) n ≡ None
+  unmarked e t = among_miss width xs _ n (λ k h q. never (sym (sym (m.set k h) ∙ (ap (λ name. get_or marks (mark_of name) false) q ∙ (ap (λ r. get_or marks r false) (sym e) ∙ t)))))
 
   pub marked_row : Marked width xs (set marks (mark_of (name_at width xs n)) true) (n + 1)
   marked_row = record { count = length-set marks _ true ∙ m.count; set = λ k h. at k h (ℕ_discrete (mark_of (name_at width xs k)) (mark_of (name_at width xs n))) (ℕ_discrete k n) }

@@ -1,11 +1,5 @@
 -- Laws of ranges and trees of nodes. Assumes nothing.
-use Prim.Native.Nat.{ℕ, zero, suc, ◌+◌, ◌-◌, ◌<◌, ◌≤◌}
-use mathlib.Core.Bool.{Bool, true, false, cond, ◌&&◌}
-use mathlib.Core.List.{List}
-use mathlib.Core.Path.{◌≡◌}
-use native.Mathlib.Omega.{arith}
-use borrow.Author.Tests.{eq-eqb, ne_eqb, leb-true}
-use lib.Dec.{eqb}
+use Rattle.std.proofs.Common.{ℕ, ◌+◌, ◌-◌, ◌<◌, ◌≤◌, Bool, true, false, cond, List, ◌≡◌, sym, ◌∙◌, arith, eq-eqb, ne_eqb, leb-true, eqb}
 use Rattle.tables.specs.NodeTag as tag
 use Rattle.tables.specs.Rows.{node_tag}
 use Rattle.tables.specs.Tree.{arity_of, trees_from, inside}
@@ -39,3 +33,7 @@ arity_le x =
 pub inside_le : (first count rows : ℕ) → inside first count rows ≡ true → first + count ≤ rows
 unfolding inside
 inside_le first count rows e = leb-true (first + count) rows e
+
+-- the same of its test's answer
+pub passed_le : {r : Bool} (first count rows : ℕ) → r ≡ inside first count rows → r ≡ true → first + count ≤ rows
+passed_le first count rows e t = inside_le first count rows (sym e ∙ t)

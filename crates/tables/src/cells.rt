@@ -23,14 +23,12 @@ pub fn cell_count(regions: &[u64]) -> Result<usize, Refusal>
 {
     let rows = regions.len() / REGION_WIDTH;
     let mut cells: usize = 0;
-    let mut i = 0;
-    while i < rows {
+    for i in 0..rows {
         let own = cells_in(regions, i);
         if CELL_LIMIT - cells < own {
             return Err(Refusal::TooManyCells);
         }
         cells += own;
-        i += 1;
     }
     Ok(cells)
 }

@@ -18,7 +18,7 @@ pub fn tree_end(nodes: &[u64], ends: &[u16], i: usize, next: usize, children: us
     if children == 1 {
         return next;
     }
-    ends[next] as usize
+    usize::from(ends[next])
 }
 
 // Whether the `count` rows from `first` on are a range of the table and exactly one tree. No rows are none, since a tree ends after its first node.
@@ -26,8 +26,6 @@ pub fn ends_with(nodes: &[u64], ends: &[u16], first: u64, count: u64) -> bool
     requires { EndsFrom nodes.now ends.now 0 }
     ensures { result ≡ one_tree nodes.now first count }
 {
-    if !range_inside(first, count, nodes.len() / NODE_WIDTH) {
-        return false;
-    }
-    ends[first as usize] as u64 == first + count
+    range_inside(first, count, nodes.len() / NODE_WIDTH)
+        && u64::from(ends[first as usize]) == first + count
 }

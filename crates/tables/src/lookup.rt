@@ -32,14 +32,13 @@ fn pass_fours(table: &[u64], width: usize, rows: usize, name: u64) -> usize
     requires { (0 < width) × (rows * width ≤ length table.now) }
     ensures { (result ≤ rows) × (lookup_from width table.now name result (rows - result) ≡ lookup_among width table.now name rows) }
 {
-    let mut i = 0;
-    while 4 <= rows - i {
-        if four_have_name(table, width, i, name) {
-            return i;
+    let fours = rows / 4;
+    for four in 0..fours {
+        if four_have_name(table, width, 4 * four, name) {
+            return 4 * four;
         }
-        i += 4;
     }
-    i
+    4 * fours
 }
 
 // The first of the first `rows` rows with that name.
@@ -47,12 +46,11 @@ fn lookup_among(table: &[u64], width: usize, rows: usize, name: u64) -> Option<u
     requires { (0 < width) × (rows * width ≤ length table.now) }
     ensures { result ≡ lookup_among width table.now name rows }
 {
-    let mut i = pass_fours(table, width, rows, name);
-    while i < rows {
+    let passed = pass_fours(table, width, rows, name);
+    for i in passed..rows {
         if has_name(table, width, i, name) {
             return Some(i);
         }
-        i += 1;
     }
     None
 }
@@ -84,10 +82,7 @@ fn named_before(table: &[u64], width: usize, marks: &[bool], i: usize) -> bool
     ensures { result ≡ is_some (lookup_among width table.now (name_at width table.now i) i) }
 {
     let name = table[i * width];
-    if !marks[mark(name)] {
-        return false;
-    }
-    lookup_among(table, width, i, name).is_some()
+    marks[mark(name)] && lookup_among(table, width, i, name).is_some()
 }
 
 // Whether no two rows have one name: no row has the name of an earlier one.
@@ -97,13 +92,11 @@ pub fn distinct_names(table: &[u64], width: usize) -> bool
 {
     let rows = table.len() / width;
     let mut marks = [false; MARKS as usize];
-    let mut i = 0;
-    while i < rows {
+    for i in 0..rows {
         if named_before(table, width, &marks, i) {
             return false;
         }
         marks[mark(table[i * width])] = true;
-        i += 1;
     }
     true
 }

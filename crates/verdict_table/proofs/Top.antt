@@ -5,7 +5,7 @@ use mathlib.Core.Path.{◌≡◌, refl}
 use native.Mathlib.Nat.{le_of_suc-le-suc, not-suc-le-zero}
 use lib.ListN.{length, get_or}
 use Rattle.verdict_table.specs.Forms.{forms}
-use Rattle.verdict_table.specs.Chart.{verdict_on, chart, count_from}
+use Rattle.verdict_table.specs.Chart.{verdict_on, count_from}
 use Rattle.verdict_table.specs.Place.{place_of}
 use Rattle.verdict_table.specs.Claim.{ChartClaim}
 use Rattle.verdict_table.proofs.Rows.{rows}

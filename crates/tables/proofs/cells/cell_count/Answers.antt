@@ -1,27 +1,24 @@
-use Prim.Native.Nat.{◌+◌, ◌-◌}
-use mathlib.Core.Path.{refl, ap, ◌∙◌}
-use native.Mathlib.Omega.{arith}
+use Rattle.std.proofs.Common.{ap, refl, ◌∙◌, ◌+◌, arith}
 use Rattle.tables.specs.Rows.{region_rows}
 use Rattle.tables.specs.Sum.{sum_to}
 use Rattle.tables.specs.Cells.{first_cell, cell_count}
 use Rattle.tables.proofs.CellsLaws.{first_cell-next, first_cell_mono, cells_over, cells-counted}
-use borrow.Author.Rules.{rules}
 use Rattle.tables.proofs.cells.cell_count.Goals as goal
 
 pub loop-i-init : goal.loop-i-init
 unfolding first_cell sum_to
-loop-i-init c = (omega arith, refl, omega arith)
+loop-i-init c = record { sum = refl; within = omega arith }
 
 pub returns-then-cells-own : goal.returns-then-cells-own
 unfolding cell_count
 returns-then-cells-own c =
     let e = first_cell-next c.args.regions.now c.loop-i.i in
-    let h = first_cell_mono c.args.regions.now (c.loop-i.i + 1) (region_rows c.args.regions.now) (search rules) in
+    let h = first_cell_mono c.args.regions.now (c.loop-i.i + 1) (region_rows c.args.regions.now) (omega arith) in
     cells_over c.args.regions.now (omega (arith, e, h, c.cells_in-own.ensures))
 
 pub loop-i-preserved : goal.loop-i-preserved
-loop-i-preserved c = (search rules, omega (arith, first_cell-next c.args.regions.now c.loop-i.i, c.cells_in-own.ensures), omega arith)
+loop-i-preserved c = record { sum = omega (arith, first_cell-next c.args.regions.now c.loop-i.i, c.cells_in-own.ensures); within = omega arith }
 
 pub returns : goal.returns
 unfolding cell_count
-returns c = cells-counted c.args.regions.now (c.loop-i.invariant.1 ∙ ap (first_cell c.args.regions.now) (omega arith)) c.loop-i.invariant.2
+returns c = cells-counted c.args.regions.now (c.loop-i.invariant.sum ∙ ap (first_cell c.args.regions.now) (omega arith)) c.loop-i.invariant.within

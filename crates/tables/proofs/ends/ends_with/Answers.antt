@@ -1,39 +1,23 @@
-use Prim.Native.Nat.{◌+◌, ◌≤◌}
-use mathlib.Core.Bool.{true}
-use mathlib.Core.Path.{◌≡◌, sym, ◌∙◌}
-use native.Mathlib.Omega.{arith}
-use borrow.Author.Tests.{not-true, not-false}
-use Rattle.tables.specs.Rows.{node_rows}
-use Rattle.tables.specs.Tree.{one_tree, inside}
-use Rattle.tables.proofs.TreeLaws.{inside_le}
+use Rattle.std.proofs.Common.{sym, ◌∙◌, arith}
+use Rattle.tables.specs.Tree.{one_tree}
+use Rattle.tables.proofs.TreeLaws.{passed_le}
 use Rattle.tables.proofs.EndsLaws.{ends_tree}
 use Rattle.tables.proofs.ends.ends_with.Goals as goal
 
-pub returns-then-not-range_inside : goal.returns-then-not-range_inside
-unfolding one_tree
-returns-then-not-range_inside c = rw (sym c.range_inside.ensures ∙ not-true _ c.if-not-range_inside.true-raw)
-
 pub offset_bounds-ends-first : goal.offset_bounds-ends-first
-offset_bounds-ends-first c =
-    let passed : inside c.args.first c.args.count (node_rows c.args.nodes.now) ≡ true = sym c.range_inside.ensures ∙ not-false _ c.if-not-range_inside.false-raw in
-    let fits : c.args.first + c.args.count ≤ node_rows c.args.nodes.now = inside_le _ _ _ passed in
-    record { fits = omega (arith, fits, c.requires.rows) }
+offset_bounds-ends-first c = record { fits = omega (arith, passed_le _ _ _ c.range_inside.ensures c.if-range_inside.true, c.requires.rows) }
 
 pub bounds-ends-first : goal.bounds-ends-first
-bounds-ends-first c =
-    let passed : inside c.args.first c.args.count (node_rows c.args.nodes.now) ≡ true = sym c.range_inside.ensures ∙ not-false _ c.if-not-range_inside.false-raw in
-    let fits : c.args.first + c.args.count ≤ node_rows c.args.nodes.now = inside_le _ _ _ passed in
-    omega (arith, fits, c.requires.room)
+bounds-ends-first c = omega (arith, passed_le _ _ _ c.range_inside.ensures c.if-range_inside.true, c.requires.room)
 
 pub overflow_add-result : goal.overflow_add-result
-overflow_add-result c =
-    let passed : inside c.args.first c.args.count (node_rows c.args.nodes.now) ≡ true = sym c.range_inside.ensures ∙ not-false _ c.if-not-range_inside.false-raw in
-    let fits : c.args.first + c.args.count ≤ node_rows c.args.nodes.now = inside_le _ _ _ passed in
-    record { fits = omega (arith, fits, c.requires.rows) }
+overflow_add-result c = record { fits = omega (arith, passed_le _ _ _ c.range_inside.ensures c.if-range_inside.true, c.requires.rows) }
 
-pub returns : goal.returns
+pub returns-then-range_inside : goal.returns-then-range_inside
 unfolding one_tree
-returns c =
-    let passed : inside c.args.first c.args.count (node_rows c.args.nodes.now) ≡ true = sym c.range_inside.ensures ∙ not-false _ c.if-not-range_inside.false-raw in
-    let fits : c.args.first + c.args.count ≤ node_rows c.args.nodes.now = inside_le _ _ _ passed in
-    rw passed (ends_tree _ _ _ _ c.requires fits)
+returns-then-range_inside c =
+    rw (c.from.ensures, sym c.range_inside.ensures ∙ c.if-range_inside.true) (ends_tree _ _ _ _ c.requires (passed_le _ _ _ c.range_inside.ensures c.if-range_inside.true))
+
+pub returns-else-range_inside : goal.returns-else-range_inside
+unfolding one_tree
+returns-else-range_inside c = rw (sym c.range_inside.ensures ∙ c.if-range_inside.false) c.if-range_inside.false

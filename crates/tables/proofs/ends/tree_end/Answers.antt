@@ -1,5 +1,4 @@
-use mathlib.Core.Path.{◌≡◌, sym, ◌∙◌}
-use native.Mathlib.Omega.{arith}
+use Rattle.std.proofs.Common.{◌≡◌, sym, ◌∙◌, arith}
 use Rattle.tables.specs.Rows.{node_tag}
 use Rattle.tables.specs.Tree.{arity_of}
 use Rattle.tables.proofs.TreeLaws.{arity_le}
@@ -19,4 +18,4 @@ pub returns : goal.returns
 returns c =
     let l = second-after _ _ c.requires.0 _ c.requires.1 in
     let two : arity_of (node_tag c.args.nodes.now c.args.i) ≡ 2 = omega (arith, arity_le (node_tag c.args.nodes.now c.args.i), c.requires.3, c.if-children-eq0.false, c.if-children-eq1.false) in
-    end_two _ _ c.requires.0 _ _ two c.requires.1 (c.requires.2.each _ (omega (arith, l)) c.requires.1.within)
+    rw c.from.ensures (end_two _ _ c.requires.0 _ _ two c.requires.1 (c.requires.2.each _ (omega (arith, l)) c.requires.1.within))

@@ -1,4 +1,4 @@
-use native.Mathlib.Omega.{arith}
+use Rattle.std.proofs.Common.{arith}
 use Rattle.tables.proofs.Index.{sooner_start, start-below}
 use Rattle.tables.proofs.lookup.four_have_name.Goals as goal
 

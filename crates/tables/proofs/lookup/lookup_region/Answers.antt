@@ -1,5 +1,5 @@
 use Rattle.tables.specs.Lookup.{lookup_of}
-use borrow.Author.Rules.{rules}
+use Rattle.std.proofs.Common.{rules}
 use Rattle.tables.proofs.lookup.lookup_region.Goals as goal
 
 pub returns : goal.returns

@@ -1,4 +1,4 @@
-use mathlib.Core.Path.{refl}
+use Rattle.std.proofs.Common.{refl}
 use Rattle.tables.specs.Marks.{mark_of}
 use Rattle.tables.proofs.lookup.mark.Goals as goal
 

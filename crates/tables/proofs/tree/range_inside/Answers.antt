@@ -1,9 +1,7 @@
-use Prim.Native.Nat.{◌+◌}
-use mathlib.Core.Path.{sym}
+use Rattle.std.proofs.Common.{◌+◌, sym, arith}
 use Rattle.tables.proofs.Index.{leb_shift}
 use Rattle.tables.specs.Tree.{inside}
 use borrow.Author.Tests.{lt-leb}
-use native.Mathlib.Omega.{arith}
 use Rattle.tables.proofs.tree.range_inside.Goals as goal
 
 pub returns-then-rows-count : goal.returns-then-rows-count

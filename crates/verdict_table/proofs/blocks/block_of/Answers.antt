@@ -1,4 +1,4 @@
-use mathlib.Core.Path.{refl}
+use Rattle.std.proofs.Common.{refl}
 use Rattle.verdict_table.specs.Place.{block_of}
 use Rattle.verdict_table.proofs.blocks.block_of.Goals as goal
 

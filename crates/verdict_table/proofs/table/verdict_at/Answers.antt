@@ -1,4 +1,4 @@
-use mathlib.Core.Path.{refl}
+use Rattle.std.proofs.Common.{refl}
 use Rattle.verdict_table.specs.Chart.{chart}
 use Rattle.verdict_table.proofs.table.verdict_at.Goals as goal
 
