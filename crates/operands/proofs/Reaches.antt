@@ -1,10 +1,10 @@
 -- Where a row's names and written indices were found, the regions and the cells are there. Assumes nothing.
+use Rattle.std.proofs.Common.{Ok}
 use Prim.Native.Nat.{ℕ, ◌<◌}
 use mathlib.Core.Bool.{true}
 use mathlib.Core.List.{List}
 use mathlib.Core.Path.{◌≡◌, refl}
 use native.Mathlib.Omega.{arith}
-use Rattle.tables.specs.Outcome.{ok}
 use Rattle.tables.specs.Rows.{region_rows}
 use Rattle.tables.specs.Cells.{cell_count}
 use Rattle.tables.specs.declared.rows.Instruction.{Instruction}
@@ -37,7 +37,7 @@ pub record Regions (regions : List ℕ) (x : Instruction) (n : NamedRegions) : T
   pub source : names_source x.source_form ≡ true → n.source < region_rows regions
 
 module _ (regions : List ℕ) (x : Instruction) where
-  pub names-within : {n : NamedRegions} → names_of regions x ≡ ok n → Regions regions x n
+  pub names-within : {n : NamedRegions} → names_of regions x ≡ Ok n → Regions regions x n
   unfolding names_of
   names-within {n} e =
       let b = bound (named_of regions (names_first x.family) x.first_name) _ n e in
@@ -57,7 +57,7 @@ pub record Cells (regions : List ℕ) (x : Instruction) (a : Addresses) : Type 0
   pub source : names_source x.source_form ≡ true → a.source < cell_count regions
 
 pub addresses_within : {regions : List ℕ} → Laid regions → (x : Instruction) {n : NamedRegions} → Regions regions x n → {a : Addresses}
-    → addresses_of regions x n ≡ ok a → Cells regions x a
+    → addresses_of regions x n ≡ Ok a → Cells regions x a
 unfolding addresses_of
 addresses_within {regions} laid x {n} g {a} e =
     let b = bound (written_of regions (indexes_first x.family) n.first x.first_index) _ a e in

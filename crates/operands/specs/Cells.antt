@@ -1,18 +1,14 @@
 -- The operands that a row reads: cells and literals; and what it writes. 01, Machine: "A cell is kind, word."
-use Rattle.std.specs.Prelude.{ℕ, ◌+◌, ◌*◌, List, [], ◌∷◌, get_or, eqb}
+use Rattle.std.specs.Prelude.{ℕ, ◌+◌, ◌*◌, List, [], ◌∷◌, get_or, eqb, Ok, Err}
 use Rattle.words.specs.Kind.{bit, integer, integer_literal, real_literal, fits_kind}
 use Rattle.tables.specs.Refusal.{no_rule}
 use Rattle.tables.specs.Cases.{case_of}
 use Rattle.tables.specs.Source as source
-use Rattle.tables.specs.Outcome.{Outcome, ok, refuse, ◌>>=◌, ◌>>◌, need}
+use Rattle.tables.specs.Outcome.{Outcome, ◌>>=◌, ◌>>◌, need}
 use Rattle.tables.specs.declared.rows.Instruction.{Instruction}
 use Rattle.journal.specs.Cells.{cell_width}
 use Rattle.journal.specs.declared.cells.Write.{Write}
 use Rattle.operands.specs.declared.cell.Value.{Value}
-use Rattle.operands.specs.declared.cell.Read.{Read}
-use Rattle.operands.specs.declared.cell.Read.TheVariants as R
-use Rattle.operands.specs.declared.cell.ReadAs.{ReadAs}
-use Rattle.operands.specs.declared.cell.ReadAs.TheVariants as A
 
 abbrev pub cell_kind : List ℕ → ℕ → ℕ
 cell_kind cells c = get_or cells (cell_width * c) 0
@@ -25,25 +21,25 @@ cell_at cells c = record { kind = cell_kind cells c; word = cell_word cells c }
 
 -- "A step reads kinds from cells, never declarations; a read cell with kind above 3 or a word beyond its kind (BIT 1, OCTET 255) has no rule"
 unfoldable pub read_of : List ℕ → ℕ → Outcome Value
-read_of cells c = need (fits_kind (cell_kind cells c) (cell_word cells c)) no_rule >> ok (cell_at cells c)
+read_of cells c = need (fits_kind (cell_kind cells c) (cell_word cells c)) no_rule >> Ok (cell_at cells c)
 
 -- "source form (0 integer literal, 1 real literal, 2 reference ..)": c is a reference's cell. A row without a source reads none.
 abbrev pub sources : List ℕ → Instruction → ℕ → List (ℕ × Outcome Value)
 sources cells x c =
-    (source.integer_literal, ok (record { kind = integer_literal; word = x.source_first }))
-    ∷ (source.real_literal, ok (record { kind = real_literal; word = x.source_first }))
+    (source.integer_literal, Ok (record { kind = integer_literal; word = x.source_first }))
+    ∷ (source.real_literal, Ok (record { kind = real_literal; word = x.source_first }))
     ∷ (source.reference, read_of cells c)
     ∷ []
 
 unfoldable pub source_of : List ℕ → Instruction → ℕ → Outcome Value
-source_of cells x c = case_of x.source_form (sources cells x c) (refuse no_rule)
+source_of cells x c = case_of x.source_form (sources cells x c) (Err no_rule)
 
 -- the word of a cell that is read and has a rule as one kind alone
 unfoldable pub read_word : ℕ → List ℕ → ℕ → Outcome ℕ
 read_word kind cells c = do
   v ← read_of cells c
   need (eqb v.kind kind) no_rule
-  ok v.word
+  Ok v.word
 
 -- a LOAD's or STORE's offset: "offset not INTEGER is 4"
 abbrev pub offset_of : List ℕ → ℕ → Outcome ℕ
@@ -56,13 +52,3 @@ condition_of = read_word bit
 -- what a row writes to cell c
 abbrev pub write : ℕ → ℕ → ℕ → Write
 write c k w = record { cell = c; kind = k; word = w }
-
--- the answer `Read` of the code
-abbrev pub read_outcome : Read → Outcome Value
-read_outcome (R.Holds v) = ok v
-read_outcome R.NoRule = refuse no_rule
-
--- the answer `ReadAs` of the code
-abbrev pub read_as_outcome : ReadAs → Outcome ℕ
-read_as_outcome (A.Word w) = ok w
-read_as_outcome A.NoRule = refuse no_rule

@@ -1,9 +1,10 @@
 // The operands that a row reads: cells and literals.
 ghost use Rattle.std.specs.Prelude.{◌≡◌};
-ghost use Rattle.operands.specs.Cells.{read_of, source_of, read_outcome, read_word, read_as_outcome};
+ghost use Rattle.operands.specs.Cells.{read_of, source_of, read_word};
 ghost use Rattle.operands.specs.Reach.{There, SourceThere};
 
 use journal::cells::CELL_WIDTH;
+use tables::refusal::Refusal;
 use tables::rows::Instruction;
 use tables::source;
 use words::kind;
@@ -15,63 +16,49 @@ pub struct Value {
     pub word: u64,
 }
 
-#[derive(Drop)]
-pub enum Read {
-    Holds(Value),
-    NoRule,
-}
-
-#[derive(Drop)]
-pub enum ReadAs {
-    Word(u64),
-    NoRule,
-}
-
 // A cell that is read: a kind above 3 or a word beyond its kind has no rule.
-pub fn read_cell(cells: &[u64], c: usize) -> Read
+pub fn read_cell(cells: &[u64], c: usize) -> Result<Value, Refusal>
     requires { There cells.now c }
-    ensures { read_outcome result ≡ read_of cells.now c }
+    ensures { result ≡ read_of cells.now c }
 {
     let at = CELL_WIDTH * c;
     let kind = cells[at];
     let word = cells[at + 1];
     if kind::fits(kind, word) {
-        return Read::Holds(Value { kind, word });
+        return Ok(Value { kind, word });
     }
-    Read::NoRule
+    Err(Refusal::NoRule)
 }
 
 // A row's source: a literal, or the cell c.
-pub fn read_source(cells: &[u64], x: Instruction, c: usize) -> Read
+pub fn read_source(cells: &[u64], x: Instruction, c: usize) -> Result<Value, Refusal>
     requires { SourceThere cells.now x c }
-    ensures { read_outcome result ≡ source_of cells.now x c }
+    ensures { result ≡ source_of cells.now x c }
 {
     let form = x.source_form;
     let word = x.source_first;
     match form {
-        source::INTEGER_LITERAL => Read::Holds(Value {
+        source::INTEGER_LITERAL => Ok(Value {
             kind: kind::INTEGER_LITERAL,
             word,
         }),
-        source::REAL_LITERAL => Read::Holds(Value {
+        source::REAL_LITERAL => Ok(Value {
             kind: kind::REAL_LITERAL,
             word,
         }),
         source::REFERENCE => read_cell(cells, c),
-        _ => Read::NoRule,
+        _ => Err(Refusal::NoRule),
     }
 }
 
 // The word of a cell that has a rule as one kind alone: an offset INTEGER, a condition BIT.
-pub fn read_as(cells: &[u64], c: usize, kind: u64) -> ReadAs
+pub fn read_as(cells: &[u64], c: usize, kind: u64) -> Result<u64, Refusal>
     requires { There cells.now c }
-    ensures { read_as_outcome result ≡ read_word kind cells.now c }
+    ensures { result ≡ read_word kind cells.now c }
 {
-    let Read::Holds(v) = read_cell(cells, c) else {
-        return ReadAs::NoRule;
-    };
+    let v = read_cell(cells, c)?;
     if v.kind != kind {
-        return ReadAs::NoRule;
+        return Err(Refusal::NoRule);
     }
-    ReadAs::Word(v.word)
+    Ok(v.word)
 }

@@ -1,10 +1,10 @@
-use mathlib.Core.Path.{ap}
+use Rattle.std.proofs.Common.{ap, rules, ◌∙◌}
 use Rattle.operands.specs.Address.{named_of, found_region}
 use Rattle.operands.proofs.address.named_region.Goals as goal
 
 pub returns-then-used : goal.returns-then-used
 unfolding named_of
-returns-then-used c = rw c.if-used.true (ap found_region c.lookup_region.ensures)
+returns-then-used c = rw c.if-used.true (c.ok_or.ensures.value ∙ ap found_region c.lookup_region.ensures)
 
 pub returns : goal.returns
 unfolding named_of
