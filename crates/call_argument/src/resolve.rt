@@ -7,44 +7,49 @@ use crate::argument::{UnresolvedCallArgument, decode};
 use crate::error::CallArgumentResolutionError;
 use crate::resolved::ResolvedCallArgument;
 use crate::vector::{Vector, same_vector};
-use tables::lookup::{Found, lookup_region};
+use tables::lookup::lookup_region;
 use tables::parameter_shape::{FIXED_VECTOR, SCALAR};
 use tables::rows::{Argument, Parameter, region_at};
 
-#[derive(Drop)]
-pub enum Resolution {
-    Resolved(ResolvedCallArgument),
-    Failed(CallArgumentResolutionError),
-}
-
 // A reference for a scalar parameter or for the return.
-fn resolve_scalar(regions: &[u64], name: u64, index: u64, kind: u64, mutable: u64) -> Resolution
+fn resolve_scalar(
+    regions: &[u64],
+    name: u64,
+    index: u64,
+    kind: u64,
+    mutable: u64,
+) -> Result<ResolvedCallArgument, CallArgumentResolutionError>
     ensures { result ≡ scalar_of regions.now name index kind mutable }
 {
-    let Found::At(region) = lookup_region(regions, name) else {
-        return Resolution::Failed(CallArgumentResolutionError::UndeclaredMemoryReference(name));
+    let Some(region) = lookup_region(regions, name) else {
+        return Err(CallArgumentResolutionError::UndeclaredMemoryReference(name));
     };
     let found = region_at(regions, region);
     if found.kind == kind {
-        return Resolution::Resolved(ResolvedCallArgument::MemoryReference {
+        return Ok(ResolvedCallArgument::MemoryReference {
             name,
             index,
             kind,
             mutable,
         });
     }
-    Resolution::Failed(CallArgumentResolutionError::MismatchedScalar {
+    Err(CallArgumentResolutionError::MismatchedScalar {
         expected: kind,
         found: found.kind,
     })
 }
 
 // An identifier for a vector of a stated length.
-fn resolve_fixed(regions: &[u64], name: u64, expected: Vector, mutable: u64) -> Resolution
+fn resolve_fixed(
+    regions: &[u64],
+    name: u64,
+    expected: Vector,
+    mutable: u64,
+) -> Result<ResolvedCallArgument, CallArgumentResolutionError>
     ensures { result ≡ fixed_of regions.now name expected mutable }
 {
-    let Found::At(region) = lookup_region(regions, name) else {
-        return Resolution::Failed(CallArgumentResolutionError::UndeclaredMemoryReference(name));
+    let Some(region) = lookup_region(regions, name) else {
+        return Err(CallArgumentResolutionError::UndeclaredMemoryReference(name));
     };
     let declared = region_at(regions, region);
     let found = Vector {
@@ -52,21 +57,26 @@ fn resolve_fixed(regions: &[u64], name: u64, expected: Vector, mutable: u64) -> 
         length: declared.length,
     };
     if same_vector(found, expected) {
-        return Resolution::Resolved(ResolvedCallArgument::Vector {
+        return Ok(ResolvedCallArgument::Vector {
             name,
             vector: expected,
             mutable,
         });
     }
-    Resolution::Failed(CallArgumentResolutionError::MismatchedVector { expected, found })
+    Err(CallArgumentResolutionError::MismatchedVector { expected, found })
 }
 
 // An identifier for a vector of any length.
-fn resolve_variable(regions: &[u64], name: u64, kind: u64, mutable: u64) -> Resolution
+fn resolve_variable(
+    regions: &[u64],
+    name: u64,
+    kind: u64,
+    mutable: u64,
+) -> Result<ResolvedCallArgument, CallArgumentResolutionError>
     ensures { result ≡ variable_of regions.now name kind mutable }
 {
-    let Found::At(region) = lookup_region(regions, name) else {
-        return Resolution::Failed(CallArgumentResolutionError::UndeclaredMemoryReference(name));
+    let Some(region) = lookup_region(regions, name) else {
+        return Err(CallArgumentResolutionError::UndeclaredMemoryReference(name));
     };
     let declared = region_at(regions, region);
     if declared.kind == kind {
@@ -74,20 +84,24 @@ fn resolve_variable(regions: &[u64], name: u64, kind: u64, mutable: u64) -> Reso
             kind: declared.kind,
             length: declared.length,
         };
-        return Resolution::Resolved(ResolvedCallArgument::Vector {
+        return Ok(ResolvedCallArgument::Vector {
             name,
             vector,
             mutable,
         });
     }
-    Resolution::Failed(CallArgumentResolutionError::MismatchedScalar {
+    Err(CallArgumentResolutionError::MismatchedScalar {
         expected: kind,
         found: declared.kind,
     })
 }
 
 // An identifier, by the parameter's shape.
-fn resolve_identifier(regions: &[u64], name: u64, p: Parameter) -> Resolution
+fn resolve_identifier(
+    regions: &[u64],
+    name: u64,
+    p: Parameter,
+) -> Result<ResolvedCallArgument, CallArgumentResolutionError>
     ensures { result ≡ identifier_of regions.now name p }
 {
     let shape = p.shape;
@@ -105,7 +119,11 @@ fn resolve_identifier(regions: &[u64], name: u64, p: Parameter) -> Resolution
 }
 
 // An argument for a parameter.
-pub fn resolve_argument(regions: &[u64], row: Argument, p: Parameter) -> Resolution
+pub fn resolve_argument(
+    regions: &[u64],
+    row: Argument,
+    p: Parameter,
+) -> Result<ResolvedCallArgument, CallArgumentResolutionError>
     ensures { result ≡ resolve_argument regions.now row p }
 {
     let argument = decode(row);
@@ -113,30 +131,32 @@ pub fn resolve_argument(regions: &[u64], row: Argument, p: Parameter) -> Resolut
         UnresolvedCallArgument::Identifier(name) => resolve_identifier(regions, name, p),
         UnresolvedCallArgument::Reference(name, index) => {
             if p.shape != SCALAR {
-                return Resolution::Failed(CallArgumentResolutionError::InvalidVectorArgument(row));
+                return Err(CallArgumentResolutionError::InvalidVectorArgument(row));
             }
             resolve_scalar(regions, name, index, p.kind, p.mutable)
         }
         UnresolvedCallArgument::Immediate(_, _) => {
             if p.mutable != 0 {
-                return Resolution::Failed(CallArgumentResolutionError::ImmediateArgumentForMutable(
-                    p.name,
-                ));
+                return Err(CallArgumentResolutionError::ImmediateArgumentForMutable(p.name));
             }
             if p.shape == SCALAR {
-                return Resolution::Resolved(ResolvedCallArgument::Immediate {
+                return Ok(ResolvedCallArgument::Immediate {
                     real: row.first,
                     imaginary: row.second,
                     kind: p.kind,
                 });
             }
-            Resolution::Failed(CallArgumentResolutionError::InvalidVectorArgument(row))
+            Err(CallArgumentResolutionError::InvalidVectorArgument(row))
         }
     }
 }
 
 // An argument for the return, of that kind.
-pub fn resolve_return(regions: &[u64], row: Argument, kind: u64) -> Resolution
+pub fn resolve_return(
+    regions: &[u64],
+    row: Argument,
+    kind: u64,
+) -> Result<ResolvedCallArgument, CallArgumentResolutionError>
     ensures { result ≡ resolve_return regions.now row kind }
 {
     let argument = decode(row);
@@ -146,7 +166,7 @@ pub fn resolve_return(regions: &[u64], row: Argument, kind: u64) -> Resolution
             regions, name, index, kind, 1,
         ),
         UnresolvedCallArgument::Immediate(_, _) => {
-            Resolution::Failed(CallArgumentResolutionError::ReturnArgument { found: row })
+            Err(CallArgumentResolutionError::ReturnArgument { found: row })
         }
     }
 }

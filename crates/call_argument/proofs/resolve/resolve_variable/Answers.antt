@@ -9,12 +9,12 @@ unfolding variable_of
 returns-in_default c = rw (sym c.lookup_region.ensures ∙ c.in_default.is)
 
 pub region_at-declared-requires : goal.region_at-declared-requires
-region_at-declared-requires c = lookup_within _ _ _ _ (sym c.lookup_region.ensures ∙ c.in-At.is)
+region_at-declared-requires c = lookup_within _ _ _ _ (sym c.lookup_region.ensures ∙ c.in-Some.is)
 
 pub returns-then-declared-kind : goal.returns-then-declared-kind
 unfolding variable_of
-returns-then-declared-kind c = rw (sym c.lookup_region.ensures ∙ c.in-At.is, eq-eqb _ _ (rw c.region_at-declared.ensures at c.if-declared-kind.true), c.region_at-declared.ensures)
+returns-then-declared-kind c = rw (sym c.lookup_region.ensures ∙ c.in-Some.is, eq-eqb _ _ (rw c.region_at-declared.ensures at c.if-declared-kind.true), c.region_at-declared.ensures)
 
 pub returns : goal.returns
 unfolding variable_of
-returns c = rw (sym c.lookup_region.ensures ∙ c.in-At.is, ne_eqb _ _ (rw c.region_at-declared.ensures at c.if-declared-kind.false), c.region_at-declared.ensures)
+returns c = rw (sym c.lookup_region.ensures ∙ c.in-Some.is, ne_eqb _ _ (rw c.region_at-declared.ensures at c.if-declared-kind.false), c.region_at-declared.ensures)
