@@ -1,4 +1,5 @@
 -- What a lookup, made by the code, says of a name's code; and the tests on codes that the rules make. Assumes nothing.
+use Rattle.std.proofs.Common.{Option, Some, None}
 use Prim.Native.Nat.{ℕ, ◌+◌, ◌<◌, ◌≤◌}
 use mathlib.Core.Bool.{Bool, true, false, cond, ◌&&◌}
 use mathlib.Core.List.{List}
@@ -13,8 +14,6 @@ use Rattle.tables.specs.Family as family
 use Rattle.tables.specs.Lookup.{lookup_region}
 use Rattle.tables.specs.Names.{names_source}
 use Rattle.tables.specs.Rows.{region_kind}
-use Rattle.tables.specs.declared.lookup.Found.{Found}
-use Rattle.tables.specs.declared.lookup.Found.TheVariants.{At, Nothing}
 use Rattle.tables.specs.declared.rows.Instruction.{Instruction}
 use Rattle.tables.proofs.FirstLaws.{every-row}
 use Rattle.word_rules.specs.Instruction.{form_allowed}
@@ -50,17 +49,17 @@ pub record Kind (regions : List ℕ) (name kind : ℕ) : Type 0 where
   pub below : kind < 4
   pub declared : undeclared kind ≡ false
 
-pub kind-read : (regions : List ℕ) (name : ℕ) {r : Found} {k kind : ℕ} → r ≡ lookup_region regions name → r ≡ At k → kind ≡ kind_code (region_kind regions k) → Kind regions name kind
+pub kind-read : (regions : List ℕ) (name : ℕ) {r : Option ℕ} {k kind : ℕ} → r ≡ lookup_region regions name → r ≡ Some k → kind ≡ kind_code (region_kind regions k) → Kind regions name kind
 unfolding code_of
 kind-read regions name {r} {k} {kind} e f g =
     let h : kind < 4 = rw g (kind-below (region_kind regions k)) in
     record { code = ap (found_code regions) (sym e ∙ f) ∙ sym g; below = h; declared = no_kind 4 h }
 
-pub code_declared : (regions : List ℕ) (name : ℕ) {r : Found} {k : ℕ} → r ≡ lookup_region regions name → r ≡ At k → undeclared (code_of regions name) ≡ false
+pub code_declared : (regions : List ℕ) (name : ℕ) {r : Option ℕ} {k : ℕ} → r ≡ lookup_region regions name → r ≡ Some k → undeclared (code_of regions name) ≡ false
 code_declared regions name {r} {k} e f = let h = kind-read regions name e f refl in rw h.code h.declared
 
 -- the name is undeclared
-pub code_none : (regions : List ℕ) (name : ℕ) {r : Found} → r ≡ lookup_region regions name → r ≡ Nothing → code_of regions name ≡ 8
+pub code_none : (regions : List ℕ) (name : ℕ) {r : Option ℕ} → r ≡ lookup_region regions name → r ≡ None → code_of regions name ≡ 8
 unfolding code_of
 code_none regions name e f = ap (found_code regions) (sym e ∙ f)
 
@@ -69,9 +68,9 @@ pub no_literal : (regions : List ℕ) (name : ℕ) → (eqb (code_of regions nam
 unfolding code_of
 no_literal regions name = at (lookup_region regions name)
   where
-    at : (f : Found) → (eqb (found_code regions f) 4 ≡ false) × (eqb (found_code regions f) 5 ≡ false)
-    at (At k) = (no_kind 0 (kind-below (region_kind regions k)), no_kind 1 (kind-below (region_kind regions k)))
-    at Nothing = (refl, refl)
+    at : (f : Option ℕ) → (eqb (found_code regions f) 4 ≡ false) × (eqb (found_code regions f) 5 ≡ false)
+    at (Some k) = (no_kind 0 (kind-below (region_kind regions k)), no_kind 1 (kind-below (region_kind regions k)))
+    at None = (refl, refl)
 
 pub bit_or_octet_lem : (k : ℕ) → (k ≡ 0) ⊎ (k ≡ 2) → bit_or_octet k ≡ true
 bit_or_octet_lem k = ⊎_elim (λ e. rw e) (λ e. rw e)
@@ -94,7 +93,7 @@ isnt b e f = rw e f
 -- ---- for callers
 
 -- an allowed kind is its own code
-pub code_kind : (regions : List ℕ) (name : ℕ) {k : ℕ} → lookup_region regions name ≡ At k → region_kind regions k < 4 → code_of regions name ≡ region_kind regions k
+pub code_kind : (regions : List ℕ) (name : ℕ) {k : ℕ} → lookup_region regions name ≡ Some k → region_kind regions k < 4 → code_of regions name ≡ region_kind regions k
 unfolding code_of
 code_kind regions name {k} e h = ap (found_code regions) e ∙ at (not_real (region_kind regions k)) refl
   where
@@ -121,9 +120,9 @@ pub name_code : (regions : List ℕ) (name : ℕ) → Code 4 (code_of regions na
 unfolding code_of
 name_code regions name = at (lookup_region regions name)
   where
-    at : (f : Found) → Code 4 (found_code regions f)
-    at (At k) = inl (kind-below (region_kind regions k))
-    at Nothing = inr refl
+    at : (f : Option ℕ) → Code 4 (found_code regions f)
+    at (Some k) = inl (kind-below (region_kind regions k))
+    at None = inr refl
 
 module _ (regions : List ℕ) (x : Instruction) where
   pub operand_code_lem : Code 6 (operand_code regions x)

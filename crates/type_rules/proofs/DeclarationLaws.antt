@@ -1,4 +1,5 @@
 -- A name's code by the declarations one after the other; and in distinct names one row has a name. Assumes nothing.
+use Rattle.std.proofs.Common.{Option, Some, None}
 use Prim.Native.Nat.{ℕ, zero, suc, ◌+◌, ◌*◌, ◌/◌, ◌<◌, ◌≤◌}
 use mathlib.Core.Bool.{Bool, true, false, not, cond}
 use mathlib.Core.List.{List, [], ◌∷◌}
@@ -8,11 +9,10 @@ use native.Mathlib.Numerals.{add-one}
 use borrow.Author.Tests.{ltb-true, ltb-false}
 use lib.Dec.{eqb, ltb}
 use lib.ListN.{length, get_or}
+use Rattle.std.specs.Option.{is_some}
 use Rattle.tables.specs.First.{first}
 use Rattle.tables.specs.Rows.{rows_of, region_rows, region_name, region_kind}
-use Rattle.tables.specs.Lookup.{name_at, lookup_among, lookup_of, is_at, distinct}
-use Rattle.tables.specs.declared.lookup.Found.{Found}
-use Rattle.tables.specs.declared.lookup.Found.TheVariants.{At, Nothing}
+use Rattle.tables.specs.Lookup.{name_at, lookup_among, lookup_of, distinct}
 use Rattle.tables.proofs.FirstLaws.{never, every-row}
 use Rattle.tables.proofs.LookupLaws.{among_none}
 use Rattle.type_rules.specs.Numbers.{absent}
@@ -24,8 +24,8 @@ use Rattle.type_rules.specs.Codes.{kind_code, found_code, code_of}
 abbrev code_from : List ℕ → ℕ → ℕ → ℕ → ℕ
 code_from regions name i n = first (λ k. eqb (region_name regions k) name) (λ k. kind_code (region_kind regions k)) absent i n
 
-abbrev found_from : List ℕ → ℕ → ℕ → ℕ → Found
-found_from regions name i n = first (λ k. eqb (region_name regions k) name) (λ k. At k) Nothing i n
+abbrev found_from : List ℕ → ℕ → ℕ → ℕ → Option ℕ
+found_from regions name i n = first (λ k. eqb (region_name regions k) name) (λ k. Some k) None i n
 
 found-from : (regions : List ℕ) (name i n : ℕ) → found_code regions (found_from regions name i n) ≡ code_from regions name i n
 unfolding first
@@ -33,7 +33,7 @@ found-from regions name i zero = refl
 found-from regions name i (suc n) = at (eqb (region_name regions i) name) (found-from regions name (i + 1) n)
   where
     at : (t : Bool) → found_code regions (found_from regions name (i + 1) n) ≡ code_from regions name (i + 1) n
-        → found_code regions (cond t (At i) (found_from regions name (i + 1) n)) ≡ cond t (kind_code (region_kind regions i)) (code_from regions name (i + 1) n)
+        → found_code regions (cond t (Some i) (found_from regions name (i + 1) n)) ≡ cond t (kind_code (region_kind regions i)) (code_from regions name (i + 1) n)
     at true ih = refl
     at false ih = ih
 
@@ -72,9 +72,9 @@ module _ (a b c : ℕ) (xs : List ℕ) where
 
 -- ---- where no two rows have one name
 
-nothing_found : (f : Found) → not (is_at f) ≡ true → f ≡ Nothing
-nothing_found (At k) e = never e
-nothing_found Nothing e = refl
+nothing_found : (f : Option ℕ) → not (is_some f) ≡ true → f ≡ None
+nothing_found (Some k) e = never e
+nothing_found None e = refl
 
 module _ (width : ℕ) (xs : List ℕ) (names : distinct width xs ≡ true) where
   no_earlier : (j k : ℕ) → j < k → k < rows_of width xs → name_at width xs j ≡ name_at width xs k → ⊥

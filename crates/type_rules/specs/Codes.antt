@@ -1,13 +1,11 @@
 -- The codes of a row's operands, by lookup.
-use Rattle.std.specs.Prelude.{ℕ, cond, List, [], ◌∷◌, eqb}
+use Rattle.std.specs.Prelude.{ℕ, cond, List, [], ◌∷◌, eqb, Option, Some, None}
 use Rattle.words.specs.Kind.{real, integer_literal, real_literal}
 use Rattle.tables.specs.Cases.{case_of}
 use Rattle.tables.specs.Family as family
 use Rattle.tables.specs.Source as source
 use Rattle.tables.specs.Lookup.{lookup_region}
 use Rattle.tables.specs.Rows.{region_kind}
-use Rattle.tables.specs.declared.lookup.Found.{Found}
-use Rattle.tables.specs.declared.lookup.Found.TheVariants.{At, Nothing}
 use Rattle.tables.specs.declared.rows.Instruction.{Instruction}
 use Rattle.type_rules.specs.Numbers.{absent}
 use Rattle.type_rules.specs.Rule.{not_real, rule_of}
@@ -17,9 +15,9 @@ use Rattle.type_rules.specs.Judgement.{Judgement}
 unfoldable pub kind_code : ℕ → ℕ
 kind_code kind = cond (not_real kind) kind real
 
-abbrev pub found_code : List ℕ → Found → ℕ
-found_code regions (At k) = kind_code (region_kind regions k)
-found_code regions Nothing = absent
+abbrev pub found_code : List ℕ → Option ℕ → ℕ
+found_code regions (Some k) = kind_code (region_kind regions k)
+found_code regions None = absent
 
 -- a name's code: its region's kind, or that it is undeclared
 unfoldable pub code_of : List ℕ → ℕ → ℕ

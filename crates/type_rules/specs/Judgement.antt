@@ -1,8 +1,7 @@
 -- What a typing rule says of a row: it passes, or it has a type error, still without its row.
-use Rattle.std.specs.Prelude.{ℕ, Bool, true, false, cond, List, [], ◌∷◌}
+use Rattle.type_rules.specs.declared.error.TypeError.{TypeError}
+use Rattle.std.specs.Prelude.{ℕ, Bool, true, false, cond, List, [], ◌∷◌, Result, Ok, Err}
 use Rattle.type_rules.specs.Numbers.{undefined_error, data_type_error, real_required_error, operand_error, absent, no_spot}
-use Rattle.type_rules.specs.declared.error.Verdict.{Verdict}
-use Rattle.type_rules.specs.declared.error.Verdict.TheVariants.{Accepted, Error}
 
 -- "A type error holds kind (1 undefined, 2 data type, 3 real required, 4 operand), row, spot of the named operand .., spot of `src` or 0, and two codes"
 pub record Fault : Type 0 where
@@ -46,10 +45,10 @@ passes pass = true
 passes (fail f) = false
 
 -- the verdict on a row
-abbrev pub verdict_at : ℕ → Judgement → Verdict
-verdict_at row pass = Accepted
+abbrev pub verdict_at : ℕ → Judgement → Result (Unit {0}) TypeError
+verdict_at row pass = (Ok tt)
 verdict_at row (fail f) =
-    Error
+    Err
     (record {
       kind = f.kind;
       row = row;

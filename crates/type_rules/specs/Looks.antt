@@ -1,17 +1,17 @@
 -- Looks that several rules share: at the first two operands, and at a source beside the kind of another operand. An undeclared name
 -- ends the look with its error. The rules themselves are in Rule.antt.
-use Rattle.std.specs.Prelude.{ℕ, cond}
+use Rattle.type_rules.specs.declared.error.TypeError.{TypeError}
+use Rattle.std.specs.Prelude.{ℕ, cond, Result}
 use Rattle.type_rules.specs.Numbers.{first_spot, second_spot, source_spot}
 use Rattle.type_rules.specs.Judgement.{undefined_memory_reference, verdict_at}
 use Rattle.type_rules.specs.Rule.{undeclared, misfits}
-use Rattle.type_rules.specs.declared.error.Verdict.{Verdict}
 use Rattle.type_rules.specs.declared.rules.Pair.{Pair}
 use Rattle.type_rules.specs.declared.rules.Pair.TheVariants as pair
 use Rattle.type_rules.specs.declared.rules.Fit.{Fit}
 use Rattle.type_rules.specs.declared.rules.Fit.TheVariants as fit
 
 -- the error of an undeclared operand
-abbrev pub undeclared_at : ℕ → ℕ → Verdict
+abbrev pub undeclared_at : ℕ → ℕ → Result (Unit {0}) TypeError
 undeclared_at row spot = verdict_at row (undefined_memory_reference spot)
 
 -- "destination, then lhs declared", "both declared", "destination, offset declared"

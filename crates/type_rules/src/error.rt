@@ -16,16 +16,10 @@ pub struct TypeError {
     pub second_code: u64,
 }
 
-#[derive(Drop)]
-pub enum Verdict {
-    Accepted,
-    Error(TypeError),
-}
-
-pub fn undefined_memory_reference(row: u64, spot: u64) -> Verdict
+pub fn undefined_memory_reference(row: u64, spot: u64) -> Result<(), TypeError>
     ensures { result ≡ verdict_at row (undefined_memory_reference spot) }
 {
-    Verdict::Error(TypeError {
+    Err(TypeError {
         kind: UNDEFINED,
         row,
         spot,
@@ -35,10 +29,16 @@ pub fn undefined_memory_reference(row: u64, spot: u64) -> Verdict
     })
 }
 
-pub fn data_type_mismatch(row: u64, dst_spot: u64, src_spot: u64, dst: u64, src: u64) -> Verdict
+pub fn data_type_mismatch(
+    row: u64,
+    dst_spot: u64,
+    src_spot: u64,
+    dst: u64,
+    src: u64,
+) -> Result<(), TypeError>
     ensures { result ≡ verdict_at row (data_type_mismatch dst_spot src_spot dst src) }
 {
-    Verdict::Error(TypeError {
+    Err(TypeError {
         kind: DATA_TYPE,
         row,
         spot: dst_spot,
@@ -48,10 +48,10 @@ pub fn data_type_mismatch(row: u64, dst_spot: u64, src_spot: u64, dst: u64, src:
     })
 }
 
-pub fn real_value_required(row: u64, spot: u64, found: u64) -> Verdict
+pub fn real_value_required(row: u64, spot: u64, found: u64) -> Result<(), TypeError>
     ensures { result ≡ verdict_at row (real_value_required spot found) }
 {
-    Verdict::Error(TypeError {
+    Err(TypeError {
         kind: REAL_REQUIRED,
         row,
         spot,
@@ -61,10 +61,15 @@ pub fn real_value_required(row: u64, spot: u64, found: u64) -> Verdict
     })
 }
 
-pub fn operator_operand_mismatch(row: u64, spot: u64, found: u64, required: u64) -> Verdict
+pub fn operator_operand_mismatch(
+    row: u64,
+    spot: u64,
+    found: u64,
+    required: u64,
+) -> Result<(), TypeError>
     ensures { result ≡ verdict_at row (operator_operand_mismatch spot found required) }
 {
-    Verdict::Error(TypeError {
+    Err(TypeError {
         kind: OPERAND,
         row,
         spot,

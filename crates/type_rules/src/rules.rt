@@ -9,9 +9,9 @@ ghost use Rattle.type_rules.specs.Codes.{kind_code, code_of, first_code, second_
 
 use crate::code::{BIT_ONLY, FIRST, INTEGRAL, REAL_OR_INTEGRAL, SECOND, SOURCE};
 use crate::error::{
-    Verdict, data_type_mismatch, operator_operand_mismatch, undefined_memory_reference,
+    TypeError, data_type_mismatch, operator_operand_mismatch, undefined_memory_reference,
 };
-use tables::lookup::{Found, lookup_region};
+use tables::lookup::lookup_region;
 use tables::rows::Instruction;
 use tables::{operator, source};
 use words::kind::{BIT, INTEGER, INTEGER_LITERAL, OCTET, REAL, REAL_LITERAL};
@@ -19,7 +19,7 @@ use words::kind::{BIT, INTEGER, INTEGER_LITERAL, OCTET, REAL, REAL_LITERAL};
 // The kinds of a row's first and second operand, or the error of the first that is undeclared.
 #[derive(Drop)]
 pub enum Pair {
-    Error(Verdict),
+    Error(Result<(), TypeError>),
     Kinds(u64, u64),
 }
 
@@ -27,7 +27,7 @@ pub enum Pair {
 #[derive(Drop)]
 pub enum Fit {
     Fits,
-    Error(Verdict),
+    Error(Result<(), TypeError>),
     Misfits(u64),
 }
 
@@ -44,10 +44,15 @@ pub fn kind_at(regions: &[u64], region: usize) -> u64
 }
 
 // An arithmetic source that is a reference.
-fn arithmetic_source(regions: &[u64], row: u64, destination: u64, name: u64) -> Verdict
+fn arithmetic_source(
+    regions: &[u64],
+    row: u64,
+    destination: u64,
+    name: u64,
+) -> Result<(), TypeError>
     ensures { result ≡ verdict_at row (arithmetic_source destination (code_of regions.now name)) }
 {
-    let Found::At(region) = lookup_region(regions, name) else {
+    let Some(region) = lookup_region(regions, name) else {
         return undefined_memory_reference(row, SOURCE);
     };
     let source = kind_at(regions, region);
@@ -55,7 +60,7 @@ fn arithmetic_source(regions: &[u64], row: u64, destination: u64, name: u64) -> 
         BIT | OCTET => operator_operand_mismatch(row, SOURCE, source, REAL_OR_INTEGRAL),
         _ => {
             if destination == source {
-                Verdict::Accepted
+                Ok(())
             } else {
                 data_type_mismatch(row, FIRST, SOURCE, destination, source)
             }
@@ -63,22 +68,22 @@ fn arithmetic_source(regions: &[u64], row: u64, destination: u64, name: u64) -> 
     }
 }
 
-pub fn type_check_arithmetic(regions: &[u64], row: u64, x: Instruction) -> Verdict
+pub fn type_check_arithmetic(regions: &[u64], row: u64, x: Instruction) -> Result<(), TypeError>
     ensures { result ≡ verdict_at row (arithmetic_rule (first_code regions.now x) (operand_code regions.now x)) }
 {
-    let Found::At(region) = lookup_region(regions, x.first_name) else {
+    let Some(region) = lookup_region(regions, x.first_name) else {
         return undefined_memory_reference(row, FIRST);
     };
     let destination = kind_at(regions, region);
     let form = x.source_form;
     match form {
         source::INTEGER_LITERAL => match destination {
-            INTEGER => Verdict::Accepted,
+            INTEGER => Ok(()),
             REAL => data_type_mismatch(row, FIRST, SOURCE, destination, INTEGER_LITERAL),
             _ => operator_operand_mismatch(row, FIRST, destination, REAL_OR_INTEGRAL),
         },
         source::REAL_LITERAL => match destination {
-            REAL => Verdict::Accepted,
+            REAL => Ok(()),
             _ => data_type_mismatch(row, FIRST, SOURCE, destination, REAL_LITERAL),
         },
         _ => match destination {
@@ -91,7 +96,7 @@ pub fn type_check_arithmetic(regions: &[u64], row: u64, x: Instruction) -> Verdi
 fn reference_fit(regions: &[u64], row: u64, kind: u64, name: u64) -> Fit
     ensures { result ≡ fit_of row kind (code_of regions.now name) }
 {
-    let Found::At(region) = lookup_region(regions, name) else {
+    let Some(region) = lookup_region(regions, name) else {
         return Fit::Error(undefined_memory_reference(row, SOURCE));
     };
     let source = kind_at(regions, region);
@@ -120,11 +125,17 @@ fn source_fit(regions: &[u64], row: u64, kind: u64, x: Instruction) -> Fit
 }
 
 // MOVE's source, a comparison's rhs: against the kind of the operand at `spot`.
-fn check_source(regions: &[u64], row: u64, spot: u64, kind: u64, x: Instruction) -> Verdict
+fn check_source(
+    regions: &[u64],
+    row: u64,
+    spot: u64,
+    kind: u64,
+    x: Instruction,
+) -> Result<(), TypeError>
     ensures { result ≡ verdict_at row (source_rule spot kind (operand_code regions.now x)) }
 {
     match source_fit(regions, row, kind, x) {
-        Fit::Fits => Verdict::Accepted,
+        Fit::Fits => Ok(()),
         Fit::Error(error) => error,
         Fit::Misfits(source) => data_type_mismatch(row, spot, SOURCE, kind, source),
     }
@@ -133,16 +144,16 @@ fn check_source(regions: &[u64], row: u64, spot: u64, kind: u64, x: Instruction)
 fn pair_of(regions: &[u64], row: u64, x: Instruction) -> Pair
     ensures { result ≡ pair_of row (first_code regions.now x) (second_code regions.now x) }
 {
-    let Found::At(first) = lookup_region(regions, x.first_name) else {
+    let Some(first) = lookup_region(regions, x.first_name) else {
         return Pair::Error(undefined_memory_reference(row, FIRST));
     };
-    let Found::At(second) = lookup_region(regions, x.second_name) else {
+    let Some(second) = lookup_region(regions, x.second_name) else {
         return Pair::Error(undefined_memory_reference(row, SECOND));
     };
     Pair::Kinds(kind_at(regions, first), kind_at(regions, second))
 }
 
-pub fn type_check_comparison(regions: &[u64], row: u64, x: Instruction) -> Verdict
+pub fn type_check_comparison(regions: &[u64], row: u64, x: Instruction) -> Result<(), TypeError>
     ensures { result ≡ verdict_at row (comparison_rule (first_code regions.now x) (second_code regions.now x) (operand_code regions.now x)) }
 {
     match pair_of(regions, row, x) {
@@ -155,12 +166,12 @@ pub fn type_check_comparison(regions: &[u64], row: u64, x: Instruction) -> Verdi
 }
 
 // A source of binary logic. The loader lets no real literal through.
-fn logic_source(regions: &[u64], row: u64, x: Instruction) -> Verdict
+fn logic_source(regions: &[u64], row: u64, x: Instruction) -> Result<(), TypeError>
     ensures { result ≡ verdict_at row (logic_source (operand_code regions.now x)) }
 {
     let form = x.source_form;
     match form {
-        source::INTEGER_LITERAL => return Verdict::Accepted,
+        source::INTEGER_LITERAL => return Ok(()),
         source::REAL_LITERAL => return operator_operand_mismatch(
             row,
             SOURCE,
@@ -169,20 +180,20 @@ fn logic_source(regions: &[u64], row: u64, x: Instruction) -> Verdict
         ),
         _ => {}
     }
-    let Found::At(region) = lookup_region(regions, x.source_first) else {
+    let Some(region) = lookup_region(regions, x.source_first) else {
         return undefined_memory_reference(row, SOURCE);
     };
     let source = kind_at(regions, region);
     match source {
-        BIT..=OCTET => Verdict::Accepted,
+        BIT..=OCTET => Ok(()),
         _ => operator_operand_mismatch(row, SOURCE, source, INTEGRAL),
     }
 }
 
-pub fn type_check_binary_logic(regions: &[u64], row: u64, x: Instruction) -> Verdict
+pub fn type_check_binary_logic(regions: &[u64], row: u64, x: Instruction) -> Result<(), TypeError>
     ensures { result ≡ verdict_at row (logic_rule (first_code regions.now x) (operand_code regions.now x)) }
 {
-    let Found::At(region) = lookup_region(regions, x.first_name) else {
+    let Some(region) = lookup_region(regions, x.first_name) else {
         return undefined_memory_reference(row, FIRST);
     };
     let destination = kind_at(regions, region);
@@ -193,10 +204,10 @@ pub fn type_check_binary_logic(regions: &[u64], row: u64, x: Instruction) -> Ver
 }
 
 // NEG, else NOT.
-pub fn type_check_unary_logic(regions: &[u64], row: u64, x: Instruction) -> Verdict
+pub fn type_check_unary_logic(regions: &[u64], row: u64, x: Instruction) -> Result<(), TypeError>
     ensures { result ≡ verdict_at row (unary_rule x.operator (first_code regions.now x)) }
 {
-    let Found::At(region) = lookup_region(regions, x.first_name) else {
+    let Some(region) = lookup_region(regions, x.first_name) else {
         return undefined_memory_reference(row, FIRST);
     };
     let operand = kind_at(regions, region);
@@ -204,33 +215,33 @@ pub fn type_check_unary_logic(regions: &[u64], row: u64, x: Instruction) -> Verd
     match operator {
         operator::NEG => match operand {
             BIT | OCTET => operator_operand_mismatch(row, FIRST, operand, REAL_OR_INTEGRAL),
-            _ => Verdict::Accepted,
+            _ => Ok(()),
         },
         _ => match operand {
-            BIT..=OCTET => Verdict::Accepted,
+            BIT..=OCTET => Ok(()),
             _ => operator_operand_mismatch(row, FIRST, operand, INTEGRAL),
         },
     }
 }
 
-pub fn type_check_move(regions: &[u64], row: u64, x: Instruction) -> Verdict
+pub fn type_check_move(regions: &[u64], row: u64, x: Instruction) -> Result<(), TypeError>
     ensures { result ≡ verdict_at row (move_rule (first_code regions.now x) (operand_code regions.now x)) }
 {
-    let Found::At(region) = lookup_region(regions, x.first_name) else {
+    let Some(region) = lookup_region(regions, x.first_name) else {
         return undefined_memory_reference(row, FIRST);
     };
     let destination = kind_at(regions, region);
     check_source(regions, row, FIRST, destination, x)
 }
 
-pub fn type_check_exchange(regions: &[u64], row: u64, x: Instruction) -> Verdict
+pub fn type_check_exchange(regions: &[u64], row: u64, x: Instruction) -> Result<(), TypeError>
     ensures { result ≡ verdict_at row (exchange_rule (first_code regions.now x) (second_code regions.now x)) }
 {
     match pair_of(regions, row, x) {
         Pair::Error(error) => error,
         Pair::Kinds(left, right) => {
             if left == right {
-                Verdict::Accepted
+                Ok(())
             } else {
                 data_type_mismatch(row, FIRST, SECOND, left, right)
             }
@@ -239,17 +250,23 @@ pub fn type_check_exchange(regions: &[u64], row: u64, x: Instruction) -> Verdict
 }
 
 // A LOAD's offset, and then the kinds of its destination and its source.
-fn load_offset(regions: &[u64], row: u64, destination: u64, source: u64, name: u64) -> Verdict
+fn load_offset(
+    regions: &[u64],
+    row: u64,
+    destination: u64,
+    source: u64,
+    name: u64,
+) -> Result<(), TypeError>
     ensures { result ≡ verdict_at row (load_offset destination source (code_of regions.now name)) }
 {
-    let Found::At(region) = lookup_region(regions, name) else {
+    let Some(region) = lookup_region(regions, name) else {
         return undefined_memory_reference(row, SOURCE);
     };
     let offset = kind_at(regions, region);
     match offset {
         INTEGER => {
             if destination == source {
-                Verdict::Accepted
+                Ok(())
             } else {
                 data_type_mismatch(row, FIRST, SECOND, destination, source)
             }
@@ -258,7 +275,7 @@ fn load_offset(regions: &[u64], row: u64, destination: u64, source: u64, name: u
     }
 }
 
-pub fn type_check_load(regions: &[u64], row: u64, x: Instruction) -> Verdict
+pub fn type_check_load(regions: &[u64], row: u64, x: Instruction) -> Result<(), TypeError>
     ensures { result ≡ verdict_at row (load_rule (first_code regions.now x) (second_code regions.now x) (reference_code regions.now x)) }
 {
     match pair_of(regions, row, x) {
@@ -270,17 +287,22 @@ pub fn type_check_load(regions: &[u64], row: u64, x: Instruction) -> Verdict
 }
 
 // A STORE's source against the kind of its destination: the source is the error's `dst`.
-fn store_source(regions: &[u64], row: u64, destination: u64, x: Instruction) -> Verdict
+fn store_source(
+    regions: &[u64],
+    row: u64,
+    destination: u64,
+    x: Instruction,
+) -> Result<(), TypeError>
     ensures { result ≡ verdict_at row (store_source destination (operand_code regions.now x)) }
 {
     match source_fit(regions, row, destination, x) {
-        Fit::Fits => Verdict::Accepted,
+        Fit::Fits => Ok(()),
         Fit::Error(error) => error,
         Fit::Misfits(source) => data_type_mismatch(row, SOURCE, FIRST, source, destination),
     }
 }
 
-pub fn type_check_store(regions: &[u64], row: u64, x: Instruction) -> Verdict
+pub fn type_check_store(regions: &[u64], row: u64, x: Instruction) -> Result<(), TypeError>
     ensures { result ≡ verdict_at row (store_rule (first_code regions.now x) (second_code regions.now x) (operand_code regions.now x)) }
 {
     match pair_of(regions, row, x) {

@@ -20,16 +20,16 @@ unfolding logic_source operand_code case_of
 returns-in_default-lookup_region c = rw (ne_eqb _ _ c.in_default.in_default-own.rest.0.1, ne_eqb _ _ c.in_default.in_default-own.rest.1, code_none _ _ c.lookup_region.ensures c.in_default-lookup_region.is) c.undefined_memory_reference.ensures
 
 pub kind_at-source-requires : goal.kind_at-source-requires
-kind_at-source-requires c = lookup_within _ _ _ _ (sym c.lookup_region.ensures ∙ c.in-At.is)
+kind_at-source-requires c = lookup_within _ _ _ _ (sym c.lookup_region.ensures ∙ c.in-Some.is)
 
 pub returns-in-0-to-2 : goal.returns-in-0-to-2
 unfolding logic_source operand_code case_of
 returns-in-0-to-2 c =
-    let seen : Kind c.args.regions.now c.args.x.source_first c.kind_at-source.result = kind-read _ _ c.lookup_region.ensures c.in-At.is c.kind_at-source.ensures in
+    let seen : Kind c.args.regions.now c.args.x.source_first c.kind_at-source.result = kind-read _ _ c.lookup_region.ensures c.in-Some.is c.kind_at-source.ensures in
     rw (ne_eqb _ _ c.in_default.in_default-own.rest.0.1, ne_eqb _ _ c.in_default.in_default-own.rest.1, seen.code, seen.declared, lt-ltb _ _ c.in-0-to-2.if-source-lt3-own.true)
 
 pub returns-in_default-source : goal.returns-in_default-source
 unfolding logic_source operand_code case_of
 returns-in_default-source c =
-    let seen : Kind c.args.regions.now c.args.x.source_first c.kind_at-source.result = kind-read _ _ c.lookup_region.ensures c.in-At.is c.kind_at-source.ensures in
+    let seen : Kind c.args.regions.now c.args.x.source_first c.kind_at-source.result = kind-read _ _ c.lookup_region.ensures c.in-Some.is c.kind_at-source.ensures in
     rw (ne_eqb _ _ c.in_default.in_default-own.rest.0.1, ne_eqb _ _ c.in_default.in_default-own.rest.1, seen.code, seen.declared, le-ltb _ _ c.in_default-source.if-source-lt3-own.false, no_kind 0 seen.below) c.operator_operand_mismatch-in_default-source.ensures

@@ -9,10 +9,10 @@ unfolding move_rule
 returns-in_default c = rw (code_none _ _ c.lookup_region.ensures c.in_default.is) c.undefined_memory_reference.ensures
 
 pub kind_at-destination-requires : goal.kind_at-destination-requires
-kind_at-destination-requires c = lookup_within _ _ _ _ (sym c.lookup_region.ensures ∙ c.in-At.is)
+kind_at-destination-requires c = lookup_within _ _ _ _ (sym c.lookup_region.ensures ∙ c.in-Some.is)
 
 pub returns : goal.returns
 unfolding move_rule
 returns c =
-    let seen : Kind c.args.regions.now c.args.x.first_name c.kind_at-destination.result = kind-read _ _ c.lookup_region.ensures c.in-At.is c.kind_at-destination.ensures in
+    let seen : Kind c.args.regions.now c.args.x.first_name c.kind_at-destination.result = kind-read _ _ c.lookup_region.ensures c.in-Some.is c.kind_at-destination.ensures in
     rw (seen.code, seen.declared) c.check_source.ensures
