@@ -7,7 +7,7 @@ use native.Mathlib.Omega.{arith}
 use borrow.Author.Tests.{ltb-true}
 use lib.Dec.{ltb}
 use Rattle.words.specs.Integer.{integer_is_negative}
-use Rattle.tables.specs.Outcome.{ok, refuse, ◌>>◌, need}
+use Rattle.tables.specs.Outcome.{ok}
 use Rattle.tables.specs.Rows.{region_rows, region_length}
 use Rattle.tables.specs.Cells.{origin, cell_count}
 use Rattle.tables.specs.Lookup.{lookup_region}

@@ -53,14 +53,13 @@ pub fn region_origin(regions: &[u64], r: usize) -> usize
     ensures { result ≡ origin regions.now r }
 {
     let mut c: usize = 0;
-    let mut i = 0;
-    while i < r {
+    for i in 0..r {
         c += cells_in(regions, i);
-        i += 1;
     }
     c
 }
 
+#[tactic(auto, unfolding(crate::specs::Address::index_fits))]
 pub fn index_fits(regions: &[u64], r: usize, i: u64) -> bool
     requires { r < region_rows regions.now }
     ensures { result ≡ index_fits regions.now r i }
@@ -80,6 +79,7 @@ pub fn index_cell(regions: &[u64], r: usize, i: u64) -> Indexed
 }
 
 // The region of a name that is used.
+#[tactic(auto, unfolding(crate::specs::Address::named_of))]
 fn named_region(regions: &[u64], used: bool, name: u64) -> Found
     ensures { found_region result ≡ named_of regions.now used name }
 {
@@ -115,6 +115,7 @@ pub fn named_regions(regions: &[u64], x: Instruction) -> Names
 }
 
 // The cell of an index that is written.
+#[tactic(auto, unfolding(crate::specs::Address::written_of))]
 fn written_cell(regions: &[u64], written: bool, r: usize, i: u64) -> Indexed
     requires { (written ≡ true → r < region_rows regions.now) × Laid regions.now }
     ensures { indexed_outcome result ≡ written_of regions.now written r i }

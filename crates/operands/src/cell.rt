@@ -42,6 +42,7 @@ pub fn read_cell(cells: &[u64], c: usize) -> Read
 }
 
 // A row's source: a literal, or the cell c.
+#[tactic(auto, unfolding(crate::specs::Cells::source_of, tables::specs::Cases::case_of))]
 pub fn read_source(cells: &[u64], x: Instruction, c: usize) -> Read
     requires { SourceThere cells.now x c }
     ensures { read_outcome result ≡ source_of cells.now x c }
