@@ -40,6 +40,7 @@ fn kinds_convert(destination: u64, source: u64) -> bool
         | ((destination == kind::INTEGER) & (source == kind::REAL))
 }
 
+#[tactic(auto, unfolding(crate::specs::Convert::conversion_fits))]
 fn conversion_fits(regions: &[u64], x: Instruction) -> bool
     ensures { result ≡ conversion_fits regions.now x }
 {

@@ -29,6 +29,7 @@ pub fn arithmetic_kinds(d: u64, s: u64) -> bool
     ((d == kind::INTEGER) | (d == kind::REAL)) & (d == own_kind(s))
 }
 
+// INTEGER and REAL have a match each: a trait of both would state each of their nine functions twice, as a method with a ghost member and at two impls.
 #[tactic(auto, unfolding(crate::specs::Operators::integer_result, tables::specs::Cases::case_of))]
 fn integer_result(operator: u64, a: u64, b: u64) -> Quotient
     ensures { quotient_outcome result ≡ integer_result operator a b }
