@@ -1,4 +1,4 @@
--- Refusal 21, as a row's condition is looked up; and what it says of a row. Assumes nothing.
+-- What refusal 21 says of a row. Assumes nothing.
 use Prim.Native.Nat.{ℕ}
 use mathlib.Core.Bool.{Bool, true, false, not, ◌||◌}
 use mathlib.Core.List.{List}
@@ -13,20 +13,6 @@ use Rattle.tables.specs.declared.lookup.Found.TheVariants.{At, Nothing}
 use Rattle.tables.specs.declared.rows.Instruction.{Instruction}
 use Rattle.tables.proofs.FirstLaws.{never}
 use Rattle.control_flow.specs.Condition.{has_condition, is_bit, condition_fits}
-
-module _ (regions : List ℕ) (x : Instruction) where
-  fits_by : {t : Bool} {f : Found} → has_condition x ≡ t → lookup_region regions x.first_name ≡ f → (not t || is_bit regions f) ≡ condition_fits regions x
-  unfolding condition_fits
-  fits_by e h = ap₂ (λ (t : Bool) (f : Found). not t || is_bit regions f) (sym e) (sym h)
-
-  pub unconditioned : has_condition x ≡ false → true ≡ condition_fits regions x
-  unconditioned e = fits_by e refl
-
-  pub condition_undeclared : has_condition x ≡ true → lookup_region regions x.first_name ≡ Nothing → false ≡ condition_fits regions x
-  condition_undeclared e h = fits_by e h
-
-  pub condition_kind : {r k : ℕ} → has_condition x ≡ true → lookup_region regions x.first_name ≡ At r → k ≡ region_kind regions r → eqb k bit ≡ condition_fits regions x
-  condition_kind e h q = ap (λ (k : ℕ). eqb k bit) q ∙ fits_by e h
 
 -- the region of a condition that fits
 pub record Bit (regions : List ℕ) (name : ℕ) : Type 0 where

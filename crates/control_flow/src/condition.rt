@@ -13,6 +13,7 @@ fn has_condition(x: Instruction) -> bool
     (x.family == family::JUMP_WHEN) | (x.family == family::JUMP_UNLESS)
 }
 
+#[tactic(auto, unfolding(crate::specs::Condition::condition_fits))]
 fn condition_fits(regions: &[u64], x: Instruction) -> bool
     ensures { result ≡ condition_fits regions.now x }
 {

@@ -2,7 +2,8 @@
 ghost use Rattle.std.specs.Prelude.{◌≡◌, cond, ◌+◌, ◌^◌, ◌<◌};
 ghost use Rattle.tables.specs.Rows.{instruction_rows};
 ghost use Rattle.labels.specs.Targets.{Targets};
-ghost use Rattle.operands.specs.Reach.{Layout};
+ghost use Rattle.operands.specs.Cells.{cell_word};
+ghost use Rattle.operands.specs.Reach.{Layout, There};
 ghost use Rattle.control_flow.specs.Next.{condition_word, next_row};
 
 use journal::cells::CELL_WIDTH;
@@ -10,6 +11,14 @@ use operands::address::{Indexed, index_cell};
 use tables::family;
 use tables::lookup::{Found, lookup_region};
 use tables::rows::{INSTRUCTION_WIDTH, Instruction, instruction_at};
+
+// The word of cell c.
+fn word_at(cells: &[u64], c: usize) -> u64
+    requires { There cells.now c }
+    ensures { result ≡ cell_word cells.now c }
+{
+    cells[CELL_WIDTH * c + 1]
+}
 
 // The word of a row's condition; of a row that has none, it does not matter.
 fn condition_word(regions: &[u64], cells: &[u64], x: Instruction) -> u64
@@ -22,7 +31,7 @@ fn condition_word(regions: &[u64], cells: &[u64], x: Instruction) -> u64
     let Indexed::At(c) = index_cell(regions, r, x.first_index) else {
         return 0;
     };
-    cells[CELL_WIDTH * c + 1]
+    word_at(cells, c)
 }
 
 // A taken jump's target, or the next row.

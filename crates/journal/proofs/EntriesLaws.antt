@@ -1,13 +1,8 @@
 -- A step's entries stand in the journal where the step began and are read back as they were; all other words stay. Assumes nothing.
-use mathlib.Core.Path.{◌≡◌, refl, sym, ap, ap₂, ◌∙◌}
-use mathlib.Core.List.{List, [], ◌∷◌, ◌++◌, append_assoc}
-use Prim.Native.Nat.{ℕ, zero, suc, ◌+◌, ◌*◌, ◌-◌, ◌≤◌, ◌<◌}
-use native.Mathlib.Nat.{not-suc-le-zero, add-zero, add-suc, suc-add}
-use native.Mathlib.Omega.{arith}
-use lib.ListN.{length, get_or, set, take, drop, length-append, take-append-drop}
-use lib.Seq.{sets, sets-eq, length-sets, length-take-le, take_at, drop-append-add, take-set-le, drop-set-lt, get_or-append-add, get_or_at}
+use Rattle.std.proofs.Common.{◌≡◌, refl, sym, ap, ap₂, ◌∙◌, List, [], ◌∷◌, ◌++◌, append_assoc, ℕ, zero, suc, ◌+◌, ◌*◌, ◌≤◌, ◌<◌, not-suc-le-zero, add-zero, add-suc, suc-add, arith, length, get_or, set, take, drop, length-append, take-append-drop, length-take-le, take_at, drop-set-lt, get_or-append-add}
+use lib.Seq.{sets, sets-eq, length-sets, drop-append-add, take-set-le, get_or_at}
 use Rattle.journal.specs.declared.cells.Write.{Write}
-use Rattle.journal.specs.Each.{Each, also}
+use Rattle.journal.specs.Each.{Each, none, also}
 use Rattle.journal.specs.Cells.{put}
 use Rattle.journal.specs.Entries.{words_of, flatten, olds, log, closing, entered, journaled, changes_at, row_left_at, entry_at, entries_at}
 
@@ -167,17 +162,6 @@ changes_log pre post row m ws base e =
 
 -- ---- the entries from `base` on, one by one
 
-pub entries-turn : (j : List ℕ) (base count i : ℕ) → i < count → entries_at j (base + i) (count - i) ≡ entry_at j (base + i) ∷ entries_at j (base + (i + 1)) (count - (i + 1))
-unfolding entries_at
-entries-turn j base count i h =
-    let e : count - i ≡ suc (count - (i + 1)) = omega arith in
-    let a : base + i + 1 ≡ base + (i + 1) = omega arith in
-    ap (entries_at j (base + i)) e ∙ ap (λ (b : ℕ). entry_at j (base + i) ∷ entries_at j b (count - (i + 1))) a
-
-pub entries_none : (j : List ℕ) (base count i : ℕ) → count ≤ i → entries_at j base (count - i) ≡ []
-unfolding entries_at
-entries_none j base count i h = let e : count - i ≡ 0 = omega arith in ap (entries_at j base) e
-
 -- the last one
 pub entries_last : (j : List ℕ) (base n : ℕ) → entries_at j base (suc n) ≡ entries_at j base n ++ (entry_at j (base + n) ∷ [])
 unfolding entries_at
@@ -194,3 +178,10 @@ each_entry P j base zero i a h = absurd (not-suc-le-zero h)
 each_entry P j base (suc n) zero (also p a) h = rw add-zero p
 each_entry P j base (suc n) (suc i) (also p a) h =
     let at : base + 1 + i ≡ base + suc i = omega arith in rw at at (each_entry P j (base + 1) n i a (omega arith))
+
+-- and what holds of one after the other holds of each
+pub entries-each : (P : Write → Type 0) (j : List ℕ) (base n : ℕ) → ((i : ℕ) → i < n → P (entry_at j (base + i))) → Each P (entries_at j base n)
+unfolding entries_at
+entries-each P j base zero all = none
+entries-each P j base (suc n) all =
+    also (rw add-zero at (all 0 (omega arith))) (entries-each P j (base + 1) n (λ i h. let at : base + suc i ≡ base + 1 + i = omega arith in rw at at (all (suc i) (omega arith))))

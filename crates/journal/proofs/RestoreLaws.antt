@@ -1,21 +1,16 @@
--- Taking back what a step logged restores the cells, a cell written twice too; and the turns of the loops over entries. Assumes nothing.
-use mathlib.Core.Path.{◌≡◌, refl, ap, ◌∙◌}
-use mathlib.Core.Logic.{◌≢◌}
-use mathlib.Core.Bool.{true, false, and-eq-true_iff}
-use mathlib.Core.List.{List, [], ◌∷◌, ◌++◌}
-use Prim.Native.Nat.{ℕ, suc, ◌+◌, ◌*◌, ◌-◌, ◌/◌, ◌≤◌, ◌<◌}
-use native.Mathlib.Omega.{arith}
-use lib.Dec.{ltb}
-use lib.ListN.{length, take, drop}
-use lib.Seq.{length-take-le}
-use borrow.Author.Tests.{lt-ltb, le-ltb, ltb-true}
+-- Taking back what a step logged restores the cells, a cell written twice too; the turns of the loop over entries, and what a look at them says. Assumes nothing.
+use Rattle.std.proofs.Common.{◌≡◌, refl, sym, ap, ◌∙◌, ◌≢◌, Bool, true, false, List, [], ◌∷◌, ◌++◌, ℕ, suc, ◌+◌, ◌*◌, ◌-◌, ◌/◌, ◌≤◌, ◌<◌, arith, ltb, length, get_or, subst, take, drop, length-take-le, lt-ltb, ltb-true}
+use mathlib.Core.Bool.{and-eq-true_iff}
+use Rattle.std.proofs.lemmas.List.FromFn.{length-range_with_len, get_or-range_with_len}
+use Rattle.std.specs.Bool.{MatchBool}
+use Rattle.std.specs.List.{AllWithin, HoldsAt, range_with_len}
 use Rattle.journal.specs.declared.cells.Write.{Write}
 use Rattle.journal.specs.Each.{Each, none, also}
 use Rattle.journal.specs.Cells.{held, put, applied}
 use Rattle.journal.specs.Entries.{olds, log, closing, journaled, entry_at, entries_at}
 use Rattle.journal.specs.Restore.{restored, undone, present}
 use Rattle.journal.proofs.CellsLaws.{each_map, length-put, held-other, put_back, put_past}
-use Rattle.journal.proofs.EntriesLaws.{entries-log, entries-turn, entries_none, entries_last, each_entry, journaled_parts}
+use Rattle.journal.proofs.EntriesLaws.{entries-log, entries_last, each_entry, entries-each, journaled_parts}
 
 -- ---- taking a step back
 
@@ -105,40 +100,44 @@ unfolding restored
 restored-append m [] o = refl
 restored-append m (x ∷ os) o = ap (λ (l : List ℕ). put l x) (restored-append m os o)
 
-pub undone-turn : (j : List ℕ) (base k : ℕ) (m : List ℕ) → 0 < k → undone j base k m ≡ undone j base (k - 1) (put m (entry_at j (base + k - 1)))
+pub undone-turn : (j : List ℕ) (base e : ℕ) (m : List ℕ) → base < e → undone j base (e - base) m ≡ undone j base (e - 1 - base) (put m (entry_at j (e - 1)))
 unfolding undone
-undone-turn j base k m h =
-    let e : k ≡ suc (k - 1) = omega arith in
-    let at : base + (k - 1) ≡ base + k - 1 = omega arith in
-    ap (λ (n : ℕ). restored m (entries_at j base n)) e
-    ∙ ap (restored m) (entries_last j base (k - 1))
-    ∙ restored-append m (entries_at j base (k - 1)) (entry_at j (base + (k - 1)))
-    ∙ ap (λ (n : ℕ). restored (put m (entry_at j n)) (entries_at j base (k - 1))) at
+undone-turn j base e m h =
+    let n : ℕ = e - 1 - base in
+    let k : e - base ≡ suc n = omega arith in
+    let at : base + n ≡ e - 1 = omega arith in
+    ap (λ (i : ℕ). restored m (entries_at j base i)) k
+    ∙ ap (restored m) (entries_last j base n)
+    ∙ restored-append m (entries_at j base n) (entry_at j (base + n))
+    ∙ ap (λ (i : ℕ). restored (put m (entry_at j i)) (entries_at j base n)) at
 
-pub undone-none : (j : List ℕ) (base k : ℕ) (m : List ℕ) → k ≤ 0 → undone j base k m ≡ m
+pub undone-none : (j : List ℕ) (base e : ℕ) (m : List ℕ) → e ≤ base → undone j base (e - base) m ≡ m
 unfolding undone restored entries_at
-undone-none j base k m h = let e : k ≡ 0 = omega arith in ap (λ (n : ℕ). restored m (entries_at j base n)) e
+undone-none j base e m h = let k : e - base ≡ 0 = omega arith in ap (λ (n : ℕ). restored m (entries_at j base n)) k
 
--- ---- the loop over the entries' cells
+-- ---- the look at the entries' cells
 
-pub present-start : (cells : ℕ) (j : List ℕ) (base count : ℕ) → present cells (entries_at j (base + 0) (count - 0)) ≡ present cells (entries_at j base count)
-present-start cells j base count =
-    let a : base + 0 ≡ base = omega arith in
-    let n : count - 0 ≡ count = omega arith in rw (a, n)
+module _ (cells : ℕ) (j : List ℕ) (base count : ℕ) where
+  abbrev cell_at : ℕ → ℕ
+  cell_at e = (entry_at j e).cell
 
-module _ (cells : ℕ) (j : List ℕ) (base count i : ℕ) where
-  pub present_bad : i < count → cells ≤ (entry_at j (base + i)).cell → present cells (entries_at j (base + i) (count - i)) ≡ false
-  unfolding present
-  present_bad h g = rw (entries-turn j base count i h, le-ltb (entry_at j (base + i)).cell cells g)
+  present_bad : (i : ℕ) → i < count → cells ≤ cell_at (base + i) → false ≡ present cells (entries_at j base count)
+  present_bad i h g = at (present cells (entries_at j base count)) refl
+    where
+      at : (t : Bool) → present cells (entries_at j base count) ≡ t → false ≡ t
+      at true e = let l : (entry_at j (base + i)).cell < cells = each_entry (λ (o : Write). o.cell < cells) j base count i (present-each cells (entries_at j base count) e) h in absurd (omega arith)
+      at false e = refl
 
-  pub present-good : i < count → (entry_at j (base + i)).cell < cells
-      → present cells (entries_at j (base + i) (count - i)) ≡ present cells (entries_at j (base + (i + 1)) (count - (i + 1)))
-  unfolding present
-  present-good h g = rw (entries-turn j base count i h, lt-ltb (entry_at j (base + i)).cell cells g)
+  -- the entry at place i of those looked at
+  entry_number : (P : ℕ → Type 0) (i : ℕ) → i < count → P (get_or (range_with_len base count) i 0) → P (base + i)
+  entry_number P i h p = subst P (get_or-range_with_len base count i 0 h) p
 
-  pub present-none : count ≤ i → present cells (entries_at j (base + i) (count - i)) ≡ true
-  unfolding present
-  present-none h = rw (entries_none j (base + i) count i h)
+  pub present-looked : (r : Bool)
+      → MatchBool r (AllWithin (λ e. cell_at e < cells) (range_with_len base count) 0 (length (range_with_len base count))) ((k : ℕ) × (k < length (range_with_len base count)) × HoldsAt (λ e. cells ≤ cell_at e) (range_with_len base count) k)
+      → r ≡ present cells (entries_at j base count)
+  present-looked true all =
+      sym (each-present cells (entries_at j base count) (entries-each (λ (o : Write). o.cell < cells) j base count (λ i h. entry_number (λ e. cell_at e < cells) i h (all i 0 (omega arith) (omega (arith, length-range_with_len base count))))))
+  present-looked false (i, h, bad) = let l : i < count = omega (arith, length-range_with_len base count) in present_bad i l (entry_number (λ e. cells ≤ cell_at e) i l (bad 0))
 
 -- what `undo` asks of all entries, said of one: its cell lies in the lent words
 pub lent_at : (words : ℕ) (j : List ℕ) (base count e : ℕ) → present (words / 2) (entries_at j base count) ≡ true → base ≤ e → e < base + count

@@ -12,14 +12,7 @@ pub fn readable(journal: &[u64], base: usize, count: usize, cells: usize) -> boo
     requires { entry_width * (base + count) ≤ length journal.now }
     ensures { result ≡ present cells (entries_at journal.now base count) }
 {
-    let mut i = 0;
-    while i < count {
-        if cells <= journal[ENTRY_WIDTH * (base + i)] as usize {
-            return false;
-        }
-        i += 1;
-    }
-    true
+    (base..base + count).all(|entry| (journal[ENTRY_WIDTH * entry] as usize) < cells)
 }
 
 // The cell of the entry gets back its old kind and word.
@@ -42,9 +35,7 @@ pub fn undo(cells: &mut [u64], journal: &[u64], base: usize, count: usize)
     requires count_value { present (length cells.old / 2) (entries_at journal.now base count) ≡ true }
     ensures { cells.new ≡ undone journal.now base count cells.old }
 {
-    let mut left = count;
-    while 0 < left {
-        restore_entry(cells, journal, base + left - 1);
-        left -= 1;
+    for entry in (base..base + count).rev() {
+        restore_entry(cells, journal, entry);
     }
 }

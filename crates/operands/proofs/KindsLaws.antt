@@ -1,17 +1,15 @@
 -- The region that a cell lies in, its declared kind, and the cells that open leaves. Assumes nothing.
 use Prim.Native.Nat.{ℕ, zero, suc, ◌+◌, ◌*◌, ◌<◌, ◌≤◌}
-use mathlib.Core.List.{List, [], ◌∷◌}
+use mathlib.Core.List.{List}
 use mathlib.Core.Path.{◌≡◌, refl, ap, ◌∙◌}
 use native.Mathlib.Omega.{arith}
 use native.Mathlib.Decide.{ℕ_discrete}
 use lib.ListN.{length, get_or}
-use lib.Dec.{ltb}
 use borrow.Author.Tests.{lt-ltb, le-ltb}
 use Rattle.tables.specs.Rows.{region_rows, region_kind, region_length}
 use Rattle.tables.specs.Cells.{cells_in, first_cell, cell_count}
 use Rattle.tables.proofs.CellsLaws.{first_cell-next, first_cell_mono}
 use Rattle.journal.specs.Cells.{held}
-use Rattle.journal.specs.declared.cells.Write.{Write}
 use Rattle.operands.specs.Address.{address_of}
 use Rattle.operands.specs.Reach.{Laid}
 use Rattle.operands.specs.Kinds.{region_among, region_of, declared_kind, zeros_from, zeros}

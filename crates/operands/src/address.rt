@@ -35,14 +35,13 @@ pub fn region_origin(regions: &[u64], r: usize) -> usize
     ensures { result ≡ origin regions.now r }
 {
     let mut c: usize = 0;
-    let mut i = 0;
-    while i < r {
+    for i in 0..r {
         c += cells_in(regions, i);
-        i += 1;
     }
     c
 }
 
+#[tactic(auto, unfolding(crate::specs::Address::index_fits))]
 pub fn index_fits(regions: &[u64], r: usize, i: u64) -> bool
     requires { r < region_rows regions.now }
     ensures { result ≡ index_fits regions.now r i }
@@ -62,6 +61,7 @@ pub fn index_cell(regions: &[u64], r: usize, i: u64) -> Result<usize, Refusal>
 }
 
 // The region of a name that is used.
+#[tactic(auto, unfolding(crate::specs::Address::named_of))]
 fn named_region(regions: &[u64], used: bool, name: u64) -> Result<usize, Refusal>
     ensures { result ≡ named_of regions.now used name }
 {
@@ -87,6 +87,7 @@ pub fn named_regions(regions: &[u64], x: Instruction) -> Result<NamedRegions, Re
 }
 
 // The cell of an index that is written.
+#[tactic(auto, unfolding(crate::specs::Address::written_of))]
 fn written_cell(regions: &[u64], written: bool, r: usize, i: u64) -> Result<usize, Refusal>
     requires { (written ≡ true → r < region_rows regions.now) × Laid regions.now }
     ensures { result ≡ written_of regions.now written r i }

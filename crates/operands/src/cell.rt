@@ -31,6 +31,7 @@ pub fn read_cell(cells: &[u64], c: usize) -> Result<Value, Refusal>
 }
 
 // A row's source: a literal, or the cell c.
+#[tactic(auto, unfolding(crate::specs::Cells::source_of, tables::specs::Cases::case_of))]
 pub fn read_source(cells: &[u64], x: Instruction, c: usize) -> Result<Value, Refusal>
     requires { SourceThere cells.now x c }
     ensures { result ≡ source_of cells.now x c }

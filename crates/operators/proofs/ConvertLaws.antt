@@ -1,8 +1,8 @@
--- Refusal 22, as a CONVERT's names are looked up, and what it says of a row; CONVERT's results. Assumes nothing.
+-- What refusal 22 says of a row; CONVERT's results. Assumes nothing.
 use Prim.Native.Nat.{ℕ, suc, ◌-◌, ◌^◌, ◌<◌}
 use mathlib.Core.Bool.{Bool, true, false, not, cond, ◌||◌, ◌&&◌}
 use mathlib.Core.List.{List}
-use mathlib.Core.Path.{◌≡◌, refl, sym, ap, ap₂, ◌∙◌, subst}
+use mathlib.Core.Path.{◌≡◌, refl, sym, ap, ◌∙◌, subst}
 use lib.Dec.{T}
 use lib.IntN.{ℤ, pos, negsuc, neg_ℤ}
 use lib.Signed.{le_z}
@@ -21,30 +21,6 @@ use Rattle.tables.specs.declared.rows.Instruction.{Instruction}
 use Rattle.tables.proofs.FirstLaws.{never}
 use Rattle.operators.specs.Convert.{convertible, both_convertible, is_convert, conversion_fits}
 
-module _ (regions : List ℕ) (x : Instruction) where
-  abbrev destination : Found
-  destination = lookup_region regions x.first_name
-
-  abbrev source : Found
-  source = lookup_region regions x.source_first
-
-  fits_by : {t : Bool} {d s : Found} → is_convert x ≡ t → destination ≡ d → source ≡ s → (not t || both_convertible regions d s) ≡ conversion_fits regions x
-  unfolding conversion_fits
-  fits_by e h g = rw (e, h, g)
-
-  pub no_convert : is_convert x ≡ false → true ≡ conversion_fits regions x
-  no_convert e = fits_by e refl refl
-
-  pub destination_undeclared : is_convert x ≡ true → destination ≡ Nothing → false ≡ conversion_fits regions x
-  destination_undeclared e h = fits_by e h refl
-
-  pub source-undeclared : {d : ℕ} → is_convert x ≡ true → destination ≡ At d → source ≡ Nothing → false ≡ conversion_fits regions x
-  source-undeclared e h g = fits_by e h g
-
-  pub both-kinds : {d s k l : ℕ} → is_convert x ≡ true → destination ≡ At d → source ≡ At s → k ≡ region_kind regions d → l ≡ region_kind regions s
-      → convertible k l ≡ conversion_fits regions x
-  both-kinds e h g p q = ap₂ convertible p q ∙ fits_by e h g
-
 -- the regions of a CONVERT that fits
 pub record Convertible (regions : List ℕ) (x : Instruction) : Type 0 where
   pub to : ℕ
@@ -55,9 +31,11 @@ pub record Convertible (regions : List ℕ) (x : Instruction) : Type 0 where
 
 pub conversion_kinds : (regions : List ℕ) (x : Instruction) → is_convert x ≡ true → conversion_fits regions x ≡ true → Convertible regions x
 unfolding conversion_fits
-conversion_kinds regions x e h = at (destination regions x) (source regions x) refl refl (ap (λ (t : Bool). not t || both_convertible regions (destination regions x) (source regions x)) (sym e) ∙ h)
+conversion_kinds regions x e h =
+    at (lookup_region regions x.first_name) (lookup_region regions x.source_first) refl refl
+    (ap (λ (t : Bool). not t || both_convertible regions (lookup_region regions x.first_name) (lookup_region regions x.source_first)) (sym e) ∙ h)
   where
-    at : (d s : Found) → destination regions x ≡ d → source regions x ≡ s → both_convertible regions d s ≡ true → Convertible regions x
+    at : (d s : Found) → lookup_region regions x.first_name ≡ d → lookup_region regions x.source_first ≡ s → both_convertible regions d s ≡ true → Convertible regions x
     at (At d) (At s) p q k = record { to = d; from = s; to_found = p; from_found = q; kinds = k }
     at (At d) Nothing p q k = never k
     at Nothing s p q k = never k

@@ -23,6 +23,7 @@ pub fn converted_kind(source: u64) -> u64
     kind::REAL
 }
 
+#[tactic(auto, unfolding(crate::specs::Convert::convert_result))]
 pub fn convert_result(source: u64, word: u64) -> Converted
     ensures { converted_outcome result ≡ convert_result source word }
 {
@@ -39,6 +40,7 @@ fn kinds_convert(destination: u64, source: u64) -> bool
         | ((destination == kind::INTEGER) & (source == kind::REAL))
 }
 
+#[tactic(auto, unfolding(crate::specs::Convert::conversion_fits))]
 fn conversion_fits(regions: &[u64], x: Instruction) -> bool
     ensures { result ≡ conversion_fits regions.now x }
 {
@@ -60,13 +62,5 @@ pub fn conversions_fit(regions: &[u64], instructions: &[u64]) -> bool
     ensures { result ≡ conversions_fit regions.now instructions.now }
 {
     let rows = instructions.len() / INSTRUCTION_WIDTH;
-    let mut row = 0;
-    while row < rows {
-        let x = instruction_at(instructions, row);
-        if !conversion_fits(regions, x) {
-            return false;
-        }
-        row += 1;
-    }
-    true
+    (0..rows).all(|row| conversion_fits(regions, instruction_at(instructions, row)))
 }

@@ -29,6 +29,8 @@ pub fn arithmetic_kinds(d: u64, s: u64) -> bool
     ((d == kind::INTEGER) | (d == kind::REAL)) & (d == own_kind(s))
 }
 
+// INTEGER and REAL have a match each: a trait of both would state each of their nine functions twice, as a method with a ghost member and at two impls.
+#[tactic(auto, unfolding(crate::specs::Operators::integer_result, tables::specs::Cases::case_of))]
 fn integer_result(operator: u64, a: u64, b: u64) -> Quotient
     ensures { quotient_outcome result ≡ integer_result operator a b }
 {
@@ -41,6 +43,7 @@ fn integer_result(operator: u64, a: u64, b: u64) -> Quotient
     }
 }
 
+#[tactic(auto, unfolding(crate::specs::Operators::real_result, tables::specs::Cases::case_of))]
 fn real_result(operator: u64, a: u64, b: u64) -> u64
     ensures { result ≡ real_result operator a b }
 {
@@ -53,6 +56,7 @@ fn real_result(operator: u64, a: u64, b: u64) -> u64
     }
 }
 
+#[tactic(auto, unfolding(crate::specs::Operators::arithmetic_result))]
 pub fn arithmetic_result(operator: u64, kind: u64, a: u64, b: u64) -> Quotient
     ensures { quotient_outcome result ≡ arithmetic_result operator kind a b }
 {
@@ -72,6 +76,7 @@ pub fn comparison_kinds(l: u64, s: u64) -> bool
     }
 }
 
+#[tactic(auto, unfolding(crate::specs::Operators::integer_test, tables::specs::Cases::case_of))]
 fn integer_test(operator: u64, a: u64, b: u64) -> bool
     ensures { result ≡ integer_test operator a b }
 {
@@ -85,6 +90,7 @@ fn integer_test(operator: u64, a: u64, b: u64) -> bool
     }
 }
 
+#[tactic(auto, unfolding(crate::specs::Operators::real_test, tables::specs::Cases::case_of))]
 fn real_test(operator: u64, a: u64, b: u64) -> bool
     ensures { result ≡ real_test operator a b }
 {
@@ -98,6 +104,7 @@ fn real_test(operator: u64, a: u64, b: u64) -> bool
     }
 }
 
+#[tactic(auto, unfolding(crate::specs::Operators::comparison_test))]
 fn is_true(operator: u64, kind: u64, a: u64, b: u64) -> bool
     ensures { result ≡ comparison_test operator kind a b }
 {
@@ -107,6 +114,7 @@ fn is_true(operator: u64, kind: u64, a: u64, b: u64) -> bool
     integer_test(operator, a, b)
 }
 
+#[tactic(auto, unfolding(crate::specs::Operators::comparison_result))]
 pub fn comparison_result(operator: u64, kind: u64, a: u64, b: u64) -> u64
     ensures { result ≡ comparison_result operator kind a b }
 {
@@ -122,6 +130,7 @@ pub fn logic_kinds(d: u64, s: u64) -> bool
     (d < kind::REAL) & ((s < kind::REAL) | (s == kind::INTEGER_LITERAL))
 }
 
+#[tactic(auto, unfolding(crate::specs::Operators::logic_result, tables::specs::Cases::case_of))]
 pub fn logic_result(operator: u64, kind: u64, v: u64, s: u64) -> Shifted
     ensures { shifted_outcome result ≡ logic_result operator kind v s }
 {
@@ -136,6 +145,7 @@ pub fn logic_result(operator: u64, kind: u64, v: u64, s: u64) -> Shifted
     }
 }
 
+#[tactic(auto, unfolding(crate::specs::Operators::unary_kinds, tables::specs::Cases::case_of))]
 pub fn unary_kinds(operator: u64, kind: u64) -> bool
     ensures { result ≡ unary_kinds operator kind }
 {
@@ -146,6 +156,7 @@ pub fn unary_kinds(operator: u64, kind: u64) -> bool
     }
 }
 
+#[tactic(auto, unfolding(crate::specs::Operators::negated))]
 fn negate(kind: u64, v: u64) -> u64
     ensures { result ≡ negated kind v }
 {
@@ -155,6 +166,7 @@ fn negate(kind: u64, v: u64) -> u64
     integer::negate(v)
 }
 
+#[tactic(auto, unfolding(crate::specs::Operators::unary_result, tables::specs::Cases::case_of))]
 pub fn unary_result(operator: u64, kind: u64, v: u64) -> u64
     ensures { result ≡ unary_result operator kind v }
 {

@@ -1,5 +1,4 @@
 // The chart's forms: those of a family and of a row, the mark of each, and how many are under a verdict. A place past the chart has a blank.
-use script::line::least;
 use tables::family::FRAME;
 use type_rules::code::OPERAND;
 use verdict_table::blocks::{NAMES, block_of};
@@ -36,17 +35,17 @@ impl Span {
     pub fn of_family(family: u64) -> Span {
         Span {
             start: start_of(family),
-            end: start_of(std::num::wrapping_add_u64(family, 1)),
+            end: start_of(family.wrapping_add(1)),
         }
     }
 
     pub fn size(self) -> usize {
-        std::num::wrapping_sub_usize(self.end, self.start)
+        self.end.wrapping_sub(self.start)
     }
 
     pub fn under(self, verdict: u8) -> usize {
-        let end = least(self.end, FORMS);
-        let start = least(self.start, end);
+        let end = self.end.min(FORMS);
+        let start = self.start.min(end);
         forms_under(verdict, start, end - start)
     }
 }
@@ -75,13 +74,8 @@ pub fn columns_of(family: u64) -> usize {
 
 // Where the row of a first operand begins.
 pub fn row_start(family: u64, first: u64) -> usize {
-    let mut place = start_of(family);
-    let mut row = 0;
-    while row < first {
-        place = std::num::wrapping_add_usize(place, row_size(family));
-        row += 1;
-    }
-    place
+    let before = row_size(family).wrapping_mul(first as usize);
+    start_of(family).wrapping_add(before)
 }
 
 // The letter of a verdict; a blank where there is none.

@@ -16,49 +16,42 @@ pub fn title() {
     text(b"Verdicts of the type check");
 }
 
-const FAMILIES: [u8; 65] =
-    *b"arithmetic\ncomparison\nbinary logic\nunary\nmove\nexchange\nload\nstore";
+const FAMILIES: &[u8] = b"arithmetic\ncomparison\nbinary logic\nunary\nmove\nexchange\nload\nstore";
 
 pub fn family_name(line: Line, family: u64) -> Line {
-    let families = FAMILIES;
-    listed(line, &families, family)
+    listed(line, FAMILIES, family)
 }
 
 // As one word.
 pub fn family_word(line: Line, family: u64) -> Line {
-    let families = FAMILIES;
-    let name = line_of(&families, family);
+    let name = line_of(FAMILIES, family);
     let first = line.text(item(name, 0));
     let rest = item(name, 1);
-    if rest.len() > 0 {
-        return first.with(b'-').text(rest);
+    if rest.is_empty() {
+        return first;
     }
-    first
+    first.with(b'-').text(rest)
 }
 
 pub fn mnemonics(line: Line, family: u64) -> Line {
-    let mnemonics = MNEMONICS;
-    listed(line, &mnemonics, family)
+    listed(line, &MNEMONICS, family)
 }
 
 pub fn mnemonic(line: Line, family: u64, operator: u64) -> Line {
-    let mnemonics = MNEMONICS;
-    line.text(item(line_of(&mnemonics, family), operator))
+    line.text(item(line_of(&MNEMONICS, family), operator))
 }
 
 // What a block's rows, groups of columns and columns are, a line for each family.
-const ROLES: [u8; 189] =
-    *b"destination by source\ndestination by lhs by rhs\ndestination by source\noperand by operator\ndestination by source\nleft by right\ndestination by source by offset\ndestination by offset by source";
+const ROLES: &[u8] =
+    b"destination by source\ndestination by lhs by rhs\ndestination by source\noperand by operator\ndestination by source\nleft by right\ndestination by source by offset\ndestination by offset by source";
 
 pub fn roles(line: Line, family: u64) -> Line {
-    let roles = ROLES;
-    listed(line, &roles, family)
+    listed(line, ROLES, family)
 }
 
 // One of them, by its place among the line's words.
 pub fn role(line: Line, family: u64, place: u64) -> Line {
-    let roles = ROLES;
-    line.text(item(line_of(&roles, family), place))
+    line.text(item(line_of(ROLES, family), place))
 }
 
 // What an operand may be: undeclared, of four kinds, of two literals.
@@ -99,5 +92,5 @@ pub fn verdict_words(verdict: u8) {
         text(b"accepted");
         return;
     }
-    error_words(verdict as u64);
+    error_words(u64::from(verdict));
 }

@@ -15,17 +15,11 @@ pub fn new_line() -> Line {
 
 // Blanks up to a column.
 pub fn to(line: Line, column: usize) -> Line {
-    let mut made = line;
-    let mut at = line.length;
-    while at < column {
-        made = made.with(b' ');
-        at += 1;
-    }
-    made
+    (line.length..column).fold(line, |made, _| made.with(b' '))
 }
 
 // A number that ends before a column.
 pub fn right(line: Line, n: u64, column: usize) -> Line {
     let width = new_line().number(n).length;
-    to(line, std::num::wrapping_sub_usize(column, width)).number(n)
+    to(line, column.wrapping_sub(width)).number(n)
 }

@@ -17,7 +17,7 @@ use verdict_table::blocks::NAMES;
 fn marked(line: Line, tag: &[u8], mark: u8) -> Line {
     line.text(tag)
         .text(b" class=")
-        .with(std::num::wrapping_add_u8(mark, 32))
+        .with(mark.wrapping_add(32))
         .with(b'>')
         .with(mark)
 }
@@ -70,10 +70,8 @@ fn legend_item(verdict: u8) {
 }
 
 fn legend_items() {
-    let mut verdict = 0;
-    while verdict < VERDICT_COUNT {
+    for verdict in 0..VERDICT_COUNT {
         legend_item(verdict);
-        verdict += 1;
     }
 }
 
@@ -111,14 +109,7 @@ fn group_head(line: Line, family: u64, second: u64) -> Line {
 }
 
 fn group_heads(line: Line, family: u64) -> Line {
-    let groups = groups_of(family);
-    let mut made = line;
-    let mut second = 0;
-    while second < groups {
-        made = group_head(made, family, second);
-        second += 1;
-    }
-    made
+    (0..groups_of(family)).fold(line, |made, second| group_head(made, family, second))
 }
 
 // In unary the columns are the operators.
@@ -132,44 +123,24 @@ fn column_head(line: Line, family: u64, column: u64) -> Line {
 
 fn column_heads(line: Line, family: u64) -> Line {
     let columns = columns_of(family) as u64;
-    let mut made = line;
-    let mut column = 0;
-    while column < columns {
-        made = column_head(made, family, column);
-        column += 1;
-    }
-    made
+    (0..columns).fold(line, |made, column| column_head(made, family, column))
 }
 
 fn all_column_heads(line: Line, family: u64) -> Line {
-    let groups = groups_of(family);
-    let mut made = line;
-    let mut group = 0;
-    while group < groups {
-        made = column_heads(made, family);
-        group += 1;
-    }
-    made
+    (0..groups_of(family)).fold(line, |made, _| column_heads(made, family))
 }
 
 // The marks of so many forms from a place on.
 fn marks(line: Line, start: usize, forms: usize) -> Line {
-    let mut made = line;
-    let mut form = 0;
-    while form < forms {
-        let place = std::num::wrapping_add_usize(start, form);
-        made = marked(made, b"<td", mark_at(place));
-        form += 1;
-    }
-    made
+    (0..forms).fold(line, |made, form| {
+        marked(made, b"<td", mark_at(start.wrapping_add(form)))
+    })
 }
 
 fn rows(family: u64) {
-    let mut first = 0;
-    while first < NAMES as u64 {
+    for first in 0..NAMES as u64 {
         let labelled = operand(new_line().text(b"<tr><th scope=row>"), first);
         marks(labelled, row_start(family, first), row_size(family)).end();
-        first += 1;
     }
 }
 
@@ -186,42 +157,31 @@ fn block(family: u64) {
 }
 
 fn blocks() {
-    let mut family = 0;
-    while family < FRAME {
+    for family in 0..FRAME {
         block(family);
-        family += 1;
     }
 }
 
 // ---- the counts
 
 fn count_heads(line: Line) -> Line {
-    let mut made = line;
-    let mut verdict = 0;
-    while verdict < VERDICT_COUNT {
-        made = marked(made, b"<th scope=col", mark_of(verdict));
-        verdict += 1;
-    }
-    made
+    (0..VERDICT_COUNT).fold(line, |made, verdict| {
+        marked(made, b"<th scope=col", mark_of(verdict))
+    })
 }
 
 // The number of all forms, and of those under each verdict.
 fn count_cells(line: Line, forms: Span) -> Line {
-    let mut made = line.text(b"<td>").number(forms.size() as u64);
-    let mut verdict = 0;
-    while verdict < VERDICT_COUNT {
-        made = made.text(b"<td>").number(forms.under(verdict) as u64);
-        verdict += 1;
-    }
-    made
+    let all = line.text(b"<td>").number(forms.size() as u64);
+    (0..VERDICT_COUNT).fold(all, |made, verdict| {
+        made.text(b"<td>").number(forms.under(verdict) as u64)
+    })
 }
 
 fn count_rows() {
-    let mut family = 0;
-    while family < FRAME {
+    for family in 0..FRAME {
         let labelled = family_name(new_line().text(b"<tr><th scope=row>"), family);
         count_cells(labelled, Span::of_family(family)).end();
-        family += 1;
     }
 }
 

@@ -15,20 +15,16 @@ const NUMBER: usize = 10;
 fn counts(line: Line, forms: Span) -> Line {
     let mut made = right(line, forms.size() as u64, FIRST_NUMBER);
     let mut column = FIRST_NUMBER;
-    let mut verdict = 0;
-    while verdict < VERDICT_COUNT {
-        column = std::num::wrapping_add_usize(column, NUMBER);
+    for verdict in 0..VERDICT_COUNT {
+        column = column.wrapping_add(NUMBER);
         made = right(made, forms.under(verdict) as u64, column);
-        verdict += 1;
     }
     made
 }
 
 fn families() {
-    let mut family = 0;
-    while family < FRAME {
+    for family in 0..FRAME {
         counts(family_name(new_line(), family), Span::of_family(family)).end();
-        family += 1;
     }
 }
 

@@ -27,38 +27,15 @@ const HEADS: u64 = 3;
 
 const LINES: u64 = 8;
 
-// What a row's cells hold: the letters above the columns, or the marks of the forms from a place on.
-#[derive(Clone, Copy)]
-enum Cells {
-    Letters,
-    Marks(usize),
-}
-
-impl Cells {
-    fn at(self, column: usize) -> u8 {
-        match self {
-            Cells::Letters => operand_letter(column),
-            Cells::Marks(place) => mark_at(std::num::wrapping_add_usize(place, column)),
-        }
-    }
-
-    // Those of the next group.
-    fn after(self, columns: usize) -> Cells {
-        match self {
-            Cells::Letters => Cells::Letters,
-            Cells::Marks(place) => Cells::Marks(std::num::wrapping_add_usize(place, columns)),
-        }
-    }
-}
-
-fn group(line: Line, cells: Cells, columns: usize, apart: usize) -> Line {
+// The cells of a group from the line's end on, each by its column.
+fn group<F: Fn(usize) -> u8>(line: Line, cell: F, columns: usize, apart: usize) -> Line
+    requires { F.IsAlwaysCallable cell }
+{
     let mut made = line;
     let mut at = line.length;
-    let mut column = 0;
-    while column < columns {
-        made = to(made, at).with(cells.at(column));
-        at = std::num::wrapping_add_usize(at, apart);
-        column += 1;
+    for column in 0..columns {
+        made = to(made, at).with(cell(column));
+        at = at.wrapping_add(apart);
     }
     made
 }
@@ -71,7 +48,7 @@ fn head(line: Line, family: u64) -> Line {
 
 // The line goes on behind a label.
 fn behind(line: Line, start: usize) -> Line {
-    to(line, std::num::wrapping_add_usize(start, LABEL))
+    to(line, start.wrapping_add(LABEL))
 }
 
 // In unary the columns are the operators.
@@ -79,15 +56,14 @@ fn column_heads(line: Line, family: u64) -> Line {
     if family == UNARY {
         return mnemonics(line, family);
     }
-    group(line, Cells::Letters, columns_of(family), APART)
+    group(line, operand_letter, columns_of(family), APART)
 }
 
 fn cells_of(line: Line, family: u64, first: u64) -> Line {
-    let marks = Cells::Marks(row_start(family, first));
-    if family == UNARY {
-        return group(line, marks, columns_of(family), WIDE_APART);
-    }
-    group(line, marks, columns_of(family), APART)
+    let start = row_start(family, first);
+    let apart = if family == UNARY { WIDE_APART } else { APART };
+    let mark = |column: usize| mark_at(start.wrapping_add(column));
+    group(line, mark, columns_of(family), apart)
 }
 
 // One line of the block of a family.
@@ -98,7 +74,7 @@ fn block_line(line: Line, family: u64, number: u64) -> Line {
         1 => roles(line, family),
         2 => column_heads(behind(line, start), family),
         _ => {
-            let first = std::num::wrapping_sub_u64(number, HEADS);
+            let first = number.wrapping_sub(HEADS);
             cells_of(behind(operand(line, first), start), family, first)
         }
     }
@@ -115,41 +91,38 @@ fn three_blocks(number: u64) {
     block_line(middle, EXCHANGE, number).end();
 }
 
-fn band_line(three: bool, number: u64) {
-    if three {
-        three_blocks(number);
-    } else {
-        two_blocks(number);
-    }
-}
-
-fn band(three: bool) {
+// Blocks side by side, line by line.
+fn band<F: Fn(u64)>(line: F)
+    requires { F.IsAlwaysCallable line }
+{
     byte(b'\n');
-    let mut number = 0;
-    while number < LINES {
-        band_line(three, number);
-        number += 1;
+    for number in 0..LINES {
+        line(number);
     }
 }
 
 // ---- blocks of five groups, one for each second operand
 
 // Before a group; a bar before all but the first.
-fn parted(line: Line, second: u64, at: usize) -> Line {
+fn parted(line: Line, second: usize, at: usize) -> Line {
     let bar = if second == 0 { b' ' } else { b'|' };
     to(line, at).with(bar)
 }
 
-fn groups(line: Line, cells: Cells, columns: usize) {
+// Each cell by its group and its column.
+fn groups<F: Fn(usize, usize) -> u8>(line: Line, cell: F, columns: usize)
+    requires { F.IsAlwaysCallable cell }
+{
     let mut made = line;
-    let mut left = cells;
     let mut at = LABEL - 1;
-    let mut second = 0;
-    while second < NAMES as u64 {
-        made = group(parted(made, second, at), left, columns, APART);
-        left = left.after(columns);
-        at = std::num::wrapping_add_usize(at, GROUP);
-        second += 1;
+    for second in 0..NAMES {
+        made = group(
+            parted(made, second, at),
+            |column| cell(second, column),
+            columns,
+            APART,
+        );
+        at = at.wrapping_add(GROUP);
     }
     made.end();
 }
@@ -157,21 +130,24 @@ fn groups(line: Line, cells: Cells, columns: usize) {
 fn group_heads(line: Line) {
     let mut made = line;
     let mut at = LABEL;
-    let mut second = 0;
-    while second < NAMES as u64 {
+    for second in 0..NAMES as u64 {
         made = operand(to(made, at), second);
-        at = std::num::wrapping_add_usize(at, GROUP);
-        second += 1;
+        at = at.wrapping_add(GROUP);
     }
     made.end();
 }
 
 fn group_rows(family: u64, columns: usize) {
-    let mut first = 0;
-    while first < NAMES as u64 {
-        let marks = Cells::Marks(row_start(family, first));
-        groups(operand(new_line(), first), marks, columns);
-        first += 1;
+    for first in 0..NAMES as u64 {
+        let start = row_start(family, first);
+        let mark = |second: usize, column: usize| {
+            mark_at(
+                start
+                    .wrapping_add(second.wrapping_mul(columns))
+                    .wrapping_add(column),
+            )
+        };
+        groups(operand(new_line(), first), mark, columns);
     }
 }
 
@@ -180,7 +156,11 @@ fn wide_block(family: u64) {
     byte(b'\n');
     roles(head(new_line(), family).text(b"; "), family).end();
     group_heads(role(new_line(), family, 2));
-    groups(role(new_line(), family, 4), Cells::Letters, columns);
+    groups(
+        role(new_line(), family, 4),
+        |_, column| operand_letter(column),
+        columns,
+    );
     group_rows(family, columns);
 }
 
@@ -200,10 +180,8 @@ fn operand_words(place: u64) {
 
 fn operands() {
     text(b"Operands: ");
-    let mut place = 0;
-    while place < OPERANDS {
+    for place in 0..OPERANDS {
         operand_words(place);
-        place += 1;
     }
     text(b"Rows by columns. Operators share verdicts, NEG and NOT apart.\n");
 }
@@ -216,10 +194,8 @@ fn legend_line(verdict: u8) {
 }
 
 fn legend() {
-    let mut verdict = 0;
-    while verdict < VERDICT_COUNT {
+    for verdict in 0..VERDICT_COUNT {
         legend_line(verdict);
-        verdict += 1;
     }
 }
 
@@ -228,8 +204,8 @@ pub fn chart() {
     byte(b'\n');
     operands();
     legend();
-    band(false);
-    band(true);
+    band(two_blocks);
+    band(three_blocks);
     wide_block(COMPARISON);
     wide_block(LOAD);
     wide_block(STORE);

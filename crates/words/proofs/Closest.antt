@@ -1,6 +1,6 @@
 -- The claim of specs/Closest.antt. Assumes nothing.
 use Rattle.std.proofs.Common.{◌≡◌, ℕ, suc, ◌-◌, ◌*◌, ◌%◌, ◌^◌, ◌<◌, ◌≤◌, Bool, true, false, ◌≢◌, ℤ, pos, negsuc, ◌*ℤ◌, nat_abs, sym, ◌∙◌, subst, ap₂, mod-lt, arith, lit≤, pow_pos}
-use lib.Ieee.{binary64, round, of_int, to_bits}
+use Rattle.std.specs.Float.Ieee.{binary64, round, of_int, to_bits}
 use Rattle.words.specs.Integer.{number}
 use Rattle.words.specs.Convert.{integer_to_real, is_negative, exponent, fraction, is_finite, units_of_one, units_at, with_sign, units}
 use Rattle.words.specs.Closest.{distance, Closest}

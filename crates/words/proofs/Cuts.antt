@@ -1,9 +1,9 @@
 -- A REAL's size without its fraction, by shifts, and the answer. Assumes nothing.
 use Rattle.std.proofs.Common.{◌≡◌, ℕ, zero, suc, ◌+◌, ◌-◌, ◌*◌, ◌/◌, ◌%◌, ◌^◌, ◌<◌, ◌≤◌, Bool, true, false, cond, not, pos, neg_ℤ, sym, refl, ap, ◌∙◌, ap₂, le_trans, lt_of_lt_of_le, le-add_right, le_of_lt, mul-le-mul_right, mod-eq_of_lt, mul_assoc, mul-le-mul_left, le-div_iff_mul-le, arith, lit≤, pow_pos, pow_mono, pow-add, shl_lt, shl_exact, shr-shr, ne_eqb, le-leb}
-use native.Mathlib.Nat.{div-eq_of_lt}
-use lib.Signed.{quot_z}
-use lib.Pow.{shl-shr}
-use borrow.Author.Tests.{lt-leb}
+use Rattle.std.proofs.Math.Nat.{div-eq_of_lt}
+use Rattle.std.specs.Int.Signed.{quot_z}
+use Rattle.std.proofs.Math.Pow.{shl-shr}
+use Rattle.std.proofs.lemmas.Bool.{lt-leb}
 use Rattle.words.specs.TwosComplement.{word_of}
 use Rattle.words.specs.Convert.{is_negative, exponent, fraction, is_finite, units_at, units_of_one, with_sign, units, truncated, within_integer, real_to_integer}
 use Rattle.words.specs.declared.convert.Converted.TheVariants.{Word, Outside}
@@ -167,3 +167,6 @@ refused_high a h = go (is_finite a) refl
         let k = units_at (exponent a) (fraction a) / units_of_one in
         beyond (is_negative a) k (over k (cut_high (exponent a) (fraction a) h)) ∙ answer a k refl (is_negative a) refl f
     go false f = unanswered a f
+
+-- for the functions of convert.rt
+pub ruleset cuts = (cut_low, cut_down, cut_up, refused_high, given_pos, refused_pos, given_neg, refused-neg)

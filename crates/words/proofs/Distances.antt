@@ -1,6 +1,6 @@
 -- Distances of whole numbers by their signs, from distances of sizes. Assumes nothing.
 use Rattle.std.proofs.Common.{◌≡◌, ℕ, zero, suc, ◌+◌, ◌-◌, ◌<◌, ◌≤◌, Bool, true, false, not, ltb, ◌≢◌, ℤ, pos, negsuc, nat_abs, sym, refl, ap, ◌∙◌, le_trans, le_of_eq, arith, ltb-false, ltb-true}
-use lib.IntN.{sub_ℕ}
+use Rattle.std.proofs.Math.IntN.{sub_ℕ}
 use Rattle.words.specs.Convert.{with_sign}
 use Rattle.words.specs.Closest.{distance}
 use Rattle.words.proofs.Signs.{pick}

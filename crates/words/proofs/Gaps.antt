@@ -2,13 +2,13 @@
 -- `closest n u` is n / u to the nearest whole number, a tie to the even one. Assumes nothing.
 use Rattle.std.proofs.Common.{◌≡◌, ℕ, zero, suc, ◌+◌, ◌-◌, ◌*◌, ◌/◌, ◌%◌, ◌^◌, ◌<◌, ◌≤◌, Bool, true, false, not, T, eqb, ltb, ◌≢◌, ◌⊎◌, sym, refl, ap, ◌∙◌, subst, inl, inr, le_trans, le_of_eq, lt_of_lt_of_le, le-add_right, le_of_lt, mul-le-mul_right, mod-lt, mul_assoc, suc-mul, eq-or-lt_of_le, mul-le-mul_left, pow-suc, div-add-mod', mul-one, arith, eqb→eq, leb→le, pow_pos, pow_mono, pow-add, shl_lt, ltb-false, ltb-true}
 use Prim.Native.Nat.{compare, Ordering}
-use native.Mathlib.Nat.{mul-mod_left, pow-succ', eq_of_mul-eq-mul_right}
-use lib.Dec.{is_le, compare_is_eq, nleb→lt, eqb_refl}
-use lib.Arith.{lt_of_le-ne}
-use lib.Ieee.{nearest, size}
-use lib.Ieee.Digits.{size_reaches}
-use lib.Ieee.Fits.{nearest-le, kept-lt}
-use lib.Ieee.Nearest.{closest}
+use Rattle.std.proofs.Math.Nat.{mul-mod_left, pow-succ', eq_of_mul-eq-mul_right}
+use Rattle.std.proofs.Math.Dec.{is_le, compare_is_eq, nleb→lt, eqb_refl}
+use Rattle.std.proofs.Math.Arith.{lt_of_le-ne}
+use Rattle.std.specs.Float.Ieee.{nearest, size}
+use Rattle.std.specs.Float.Ieee.Digits.{size_reaches}
+use Rattle.std.specs.Float.Ieee.Fits.{nearest-le, kept-lt}
+use Rattle.std.specs.Float.Ieee.Nearest.{closest}
 
 -- the distance of two numbers
 abbrev pub gap : ℕ → ℕ → ℕ

@@ -1,10 +1,7 @@
 -- Laws that the proofs share.
 pub mod Signs
-pub mod Wraps
-pub mod Halves
-pub mod Quotients
-pub mod Order
-pub mod Widths
+pub mod Casts
+pub mod Equal
 pub mod Shifts
 pub mod Literal
 pub mod Gaps

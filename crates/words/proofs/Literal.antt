@@ -1,7 +1,7 @@
 -- The literals that a cell of a kind takes are the words of that kind: a number from 0 to 2 ^ w - 1 is a word below 2 ^ w, at any width below 64 and so at 1 and 8.
 -- Assumes nothing.
-use Rattle.std.proofs.Common.{◌≡◌, ℕ, ◌-◌, ◌^◌, ◌<◌, ◌≤◌, Bool, true, false, cond, ◌&&◌, eqb, ltb, leb, ℤ, pos, sym, refl, ◌∙◌, zero-le, arith, lit≤, pow_pos, pow_mono, le-ltb, lt-ltb, le-leb, leb-false, leb-true}
-use lib.Signed.{le_z}
+use Rattle.std.proofs.Common.{◌≡◌, ℕ, ◌^◌, ◌<◌, ◌≤◌, Bool, true, false, cond, ◌&&◌, eqb, ltb, leb, ℤ, pos, sym, refl, zero-le, arith, lit≤, pow_pos, pow_mono, le-ltb, lt-ltb, le-leb, leb-false, leb-true}
+use Rattle.std.specs.Int.Signed.{le_z}
 use Rattle.words.specs.Kind.{width_of, fits_kind}
 use Rattle.words.specs.Literal.{up_to, literal_fits}
 use Rattle.words.specs.Width.{ones}

@@ -1,21 +1,9 @@
 -- The shifts as the code computes them in words of 64 bits, at every width up to 64. Assumes nothing.
 use Rattle.std.proofs.Common.{◌≡◌, ℕ, suc, ◌+◌, ◌-◌, ◌*◌, ◌/◌, ◌%◌, ◌^◌, ◌<◌, ◌≤◌, Bool, true, false, cond, ltb, sym, refl, ap, ◌∙◌, subst, ap₂, lt_of_le_of_lt, mod-lt, mod-eq_of_lt, div-le_self, arith, pow_pos, le-ltb, lt-ltb}
-use lib.Pow.{mod-mod-pow}
+use Rattle.std.proofs.Math.Pow.{mod-mod-pow}
 use Rattle.words.specs.TwosComplement.{word_of}
-use Rattle.words.specs.Width.{ones, low_bits, top_bits, shl_at, shr_at, ashr_at, shifted}
-use Rattle.words.specs.Integer.{integer_is_negative}
-use Rattle.words.specs.declared.width.Shifted.TheVariants.{Word, NegativeCount}
-use Rattle.words.specs.WidthLaws.{signed_pos, signed-neg}
-
--- the answer, by the count's sign
-module _ (shift : ℕ → ℕ) (count : ℕ) where
-  pub count_negative : integer_is_negative count ≡ true → NegativeCount ≡ shifted shift count
-  unfolding shifted
-  count_negative e = rw e
-
-  pub count_kept : (r : ℕ) → integer_is_negative count ≡ false → r ≡ shift count → Word r ≡ shifted shift count
-  unfolding shifted
-  count_kept r e h = rw e (ap Word h)
+use Rattle.words.specs.Width.{ones, low_bits, top_bits, shl_at, shr_at, ashr_at}
+use Rattle.words.specs.WidthLaws.{width_at_most, low_below, signed_pos, signed-neg}
 
 module _ (w v n : ℕ) where
   pub shl_in : w ≤ 64 → n < w → low_bits w (v * 2 ^ n % 2 ^ 64) ≡ shl_at w v n
@@ -23,18 +11,6 @@ module _ (w v n : ℕ) where
   shl_in h l =
       let e : (64 - w) + w ≡ 64 = omega arith in
       rw (lt-ltb n w l) (subst (λ (m : ℕ). v * 2 ^ n % 2 ^ m % 2 ^ w ≡ v * 2 ^ n % 2 ^ w) e (mod-mod-pow (v * 2 ^ n) (64 - w) w))
-
-  pub shl_out : w ≤ n → 0 ≡ shl_at w v n
-  unfolding shl_at
-  shl_out l = rw (le-ltb n w l)
-
-  pub shr_in : n < w → v / 2 ^ n ≡ shr_at w v n
-  unfolding shr_at
-  shr_in l = rw (lt-ltb n w l)
-
-  pub shr_out : w ≤ n → 0 ≡ shr_at w v n
-  unfolding shr_at
-  shr_out l = rw (le-ltb n w l)
 
   pub shr_le : (r : ℕ) → r ≡ shr_at w v n → r ≤ v
   unfolding shr_at
@@ -76,3 +52,6 @@ module _ (w v n : ℕ) where
     pub ashr-set : r ≡ shr_at w (all - low) n → all - low < low → all - r ≡ ashr_at w v n
     ashr-set e h =
         ap₂ ◌-◌ ones_are (e ∙ ap₂ (λ (x y : ℕ). shr_at w (x - y) n) ones_are low_are) ∙ ashr-neg (omega arith)
+
+-- for the functions of width.rt
+pub ruleset shifts = (width_at_most, low_below, shl_in, shr_le, ashr_clear, ashr-set)

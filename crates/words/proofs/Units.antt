@@ -1,13 +1,13 @@
 -- A REAL word's units and the value that is read from the word are one number; and the units of a whole number rounded to a REAL. Assumes nothing.
 use Rattle.std.proofs.Common.{◌≡◌, ℕ, zero, suc, ◌+◌, ◌-◌, ◌*◌, ◌/◌, ◌%◌, ◌^◌, ◌<◌, ◌≤◌, Bool, true, false, cond, not, eqb, leb, ◌⊎◌, sym, refl, ap, ◌∙◌, subst, inl, inr, true≢false, lt_of_lt_of_le, lt_of_le_of_lt, mul_assoc, one-mul, pow-suc, mul-one, div-one, arith, lit≤, pow_mono, shl_lt}
-use mathlib.Core.Bool.{false≢true}
-use native.Mathlib.Nat.{mul-mod_left, eq_of_mul-eq-mul_right}
-use lib.Pow.{add-lt-pow, mod-mod-pow}
-use lib.Ieee.{Float, nan, inf, fin, binary64, down, size, odd, units, round, of_fields, of_bits, to_bits}
-use lib.Ieee.Fits.{down_pos, round_is, round-fits}
-use lib.Ieee.Bits.{of_bits-to_bits}
-use lib.Ieee.Exact.{HasValue, odd_sign, units_val}
-use lib.Ieee.Nearest.{closest}
+use Rattle.std.proofs.lemmas.Bool.{false≢true}
+use Rattle.std.proofs.Math.Nat.{mul-mod_left, eq_of_mul-eq-mul_right}
+use Rattle.std.proofs.Math.Pow.{add-lt-pow, mod-mod-pow}
+use Rattle.std.specs.Float.Ieee.{Float, nan, inf, fin, binary64, down, size, odd, units, round, of_fields, of_bits, to_bits}
+use Rattle.std.specs.Float.Ieee.Fits.{down_pos, round_is, round-fits}
+use Rattle.std.specs.Float.Ieee.Bits.{of_bits-to_bits}
+use Rattle.std.specs.Float.Ieee.Exact.{HasValue, odd_sign, units_val}
+use Rattle.std.specs.Float.Ieee.Nearest.{closest}
 use Rattle.words.specs.Convert.{is_negative, exponent, fraction, is_finite, units_of_one, units_at}
 use Rattle.words.proofs.Gaps.{rounded, kept, dropped, rounded_le, kept_le, kept_half, even_or_less}
 

@@ -1,4 +1,6 @@
 // CONVERT between INTEGER words, 64 bits in two's complement, and REAL words, binary64 patterns.
+#![tactic(auto, using(crate::proofs::Cuts::cuts, crate::proofs::Casts::number_cast), unfolding(crate::specs::Convert::integer_to_real))]
+
 ghost use Rattle.std.specs.Prelude.{◌≡◌, ◌/◌, ◌^◌, ◌<◌, ◌≤◌};
 ghost use Rattle.words.specs.Convert.{integer_to_real, units_of_one, units_at, real_to_integer};
 
@@ -21,14 +23,10 @@ pub enum Converted {
     Outside,
 }
 
-// The size is rounded, and then gets the sign: nearest is the same for both signs.
 pub fn integer_to_real(a: u64) -> u64
     ensures { result ≡ integer_to_real a }
 {
-    if a < TOP {
-        return f64::to_bits(std::num::nearest_u64_to_f64(a));
-    }
-    f64::to_bits(-std::num::nearest_u64_to_f64(u64::MAX - a + 1))
+    std::num::nearest_i64_to_f64(a.cast_signed()).to_bits()
 }
 
 // A REAL's size without its fraction, below 2 ^ 64.
@@ -57,7 +55,7 @@ pub fn real_to_integer(a: u64) -> Converted
     let size = whole_part(exponent, a % LEADING);
     if a >= TOP {
         if size <= TOP {
-            return Converted::Word(std::num::wrapping_sub_u64(0, size));
+            return Converted::Word(size.wrapping_neg());
         }
         return Converted::Outside;
     }

@@ -1,48 +1,32 @@
 // INTEGER words: 64 bits in two's complement.
-ghost use Rattle.std.specs.Prelude.{◌≡◌, ◌+◌, ◌*◌, ◌%◌, ◌^◌, ◌<◌};
-ghost use Rattle.words.specs.Integer.{integer_add, integer_subtract, integer_multiply, integer_negate, integer_quotient, integer_divide, integer_is_negative, integer_equal, integer_greater_than_or_equal, integer_greater_than, integer_less_than_or_equal, integer_less_than};
+#![tactic(auto, using(crate::proofs::Casts::operators, crate::proofs::Equal::eq_word), unfolding(crate::specs::Integer::integer_divide, crate::specs::Integer::integer_is_negative, crate::specs::Integer::integer_greater_than_or_equal, crate::specs::Integer::integer_greater_than, crate::specs::Integer::integer_less_than_or_equal, crate::specs::Integer::integer_less_than))]
 
-// 2 ^ 63: the least word with the top bit set.
-const TOP: u64 = 0x8000_0000_0000_0000;
-
-// 2 ^ 32: the base of a word's halves.
-const HALF: u64 = 0x1_0000_0000;
+ghost use Rattle.std.specs.Prelude.{◌≡◌};
+ghost use Rattle.words.specs.Integer.{integer_add, integer_subtract, integer_multiply, integer_negate, integer_divide, integer_is_negative, integer_equal, integer_greater_than_or_equal, integer_greater_than, integer_less_than_or_equal, integer_less_than};
 
 pub fn add(a: u64, b: u64) -> u64
     ensures { result ≡ integer_add a b }
 {
-    std::num::wrapping_add_u64(a, b)
+    a.wrapping_add(b)
 }
 
 pub fn subtract(a: u64, b: u64) -> u64
     ensures { result ≡ integer_subtract a b }
 {
-    std::num::wrapping_sub_u64(a, b)
+    a.wrapping_sub(b)
 }
 
 pub fn negate(a: u64) -> u64
     ensures { result ≡ integer_negate a }
 {
-    std::num::wrapping_sub_u64(0, a)
-}
-
-// a * b modulo 2 ^ 64 by halves of 32 bits: the product of the two upper halves falls off.
-fn product(a: u64, b: u64) -> u64
-    ensures { result ≡ a * b % 2 ^ 64 }
-{
-    let a0 = a % HALF;
-    let a1 = a / HALF;
-    let b0 = b % HALF;
-    let b1 = b / HALF;
-    let cross = (a1 * b0 % HALF + a0 * b1 % HALF) % HALF;
-    std::num::wrapping_add_u64(cross * HALF, a0 * b0)
+    a.wrapping_neg()
 }
 
 // Signed and unsigned products agree modulo 2 ^ 64.
 pub fn multiply(a: u64, b: u64) -> u64
     ensures { result ≡ integer_multiply a b }
 {
-    product(a, b)
+    a.wrapping_mul(b)
 }
 
 #[derive(Drop)]
@@ -51,43 +35,21 @@ pub enum Quotient {
     ZeroDivisor,
 }
 
-// The quotient of the sizes, with the sign of the quotient. The size of -2 ^ 63 by that of -1 is 2 ^ 63, the word of -2 ^ 63.
-fn divided(a: u64, b: u64) -> u64
-    requires { 0 < b }
-    ensures { result ≡ integer_quotient a b }
-{
-    if a < TOP {
-        if b < TOP {
-            return a / b;
-        }
-        return std::num::wrapping_sub_u64(0, a / (u64::MAX - b + 1));
-    }
-    if b < TOP {
-        return std::num::wrapping_sub_u64(0, (u64::MAX - a + 1) / b);
-    }
-    (u64::MAX - a + 1) / (u64::MAX - b + 1)
-}
-
+// -2 ^ 63 by -1 gives 2 ^ 63, the word of -2 ^ 63.
 pub fn divide(a: u64, b: u64) -> Quotient
     ensures { result ≡ integer_divide a b }
 {
     if b == 0 {
         return Quotient::ZeroDivisor;
     }
-    Quotient::Word(divided(a, b))
+    let quotient = a.cast_signed().wrapping_div(b.cast_signed());
+    Quotient::Word(quotient.cast_unsigned())
 }
 
 pub fn is_negative(a: u64) -> bool
     ensures { result ≡ integer_is_negative a }
 {
-    a >= TOP
-}
-
-// Where a word goes in the order of the signed numbers: the top bit flipped.
-fn place(a: u64) -> u64
-    ensures { result ≡ (a + 2 ^ 63) % 2 ^ 64 }
-{
-    std::num::wrapping_add_u64(a, TOP)
+    a.cast_signed().is_negative()
 }
 
 pub fn equal(a: u64, b: u64) -> bool
@@ -99,13 +61,13 @@ pub fn equal(a: u64, b: u64) -> bool
 pub fn less_than_or_equal(a: u64, b: u64) -> bool
     ensures { result ≡ integer_less_than_or_equal a b }
 {
-    place(a) <= place(b)
+    a.cast_signed() <= b.cast_signed()
 }
 
 pub fn less_than(a: u64, b: u64) -> bool
     ensures { result ≡ integer_less_than a b }
 {
-    place(a) < place(b)
+    a.cast_signed() < b.cast_signed()
 }
 
 pub fn greater_than_or_equal(a: u64, b: u64) -> bool

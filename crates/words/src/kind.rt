@@ -1,4 +1,6 @@
 // The kinds of cells, and which words each holds.
+#![tactic(auto, unfolding(crate::specs::Kind::width_of, crate::specs::Kind::fits_kind))]
+
 ghost use Rattle.std.specs.Prelude.{◌≡◌};
 ghost use Rattle.words.specs.Kind.{width_of, fits_kind};
 

@@ -1,7 +1,9 @@
 // Operators on the bits of a word, at the width of its kind.
+#![tactic(auto, using(crate::proofs::Shifts::shifts), unfolding(crate::specs::Kind::width_of, crate::specs::Width::low_bits, crate::specs::Width::not_at, crate::specs::Width::and_at, crate::specs::Width::ior_at, crate::specs::Width::xor_at, crate::specs::Width::shl_at, crate::specs::Width::shr_at, crate::specs::Width::shifted, crate::specs::Width::shift_left, crate::specs::Width::shift_right, crate::specs::Width::shift_right_arithmetic))]
+
 ghost use Rattle.std.specs.Prelude.{◌≡◌};
 ghost use Rattle.words.specs.Kind.{width_of};
-ghost use Rattle.words.specs.Width.{ones, low_bits, not_at, and_at, ior_at, xor_at, shl_at, shr_at, ashr_at, shift_left, shift_right, shift_right_arithmetic};
+ghost use Rattle.words.specs.Width.{ones, low_bits, not_at, and_at, ior_at, xor_at, shl_at, shr_at, ashr_at, shifted, shift_left, shift_right, shift_right_arithmetic};
 
 use crate::{integer, kind};
 
@@ -87,29 +89,30 @@ pub enum Shifted {
     NegativeCount,
 }
 
-pub fn shl(kind: u64, v: u64, count: u64) -> Shifted
-    ensures { result ≡ shift_left (width_of kind) v count }
+// The shifted word, unless the count is negative.
+fn answer(count: u64, word: u64) -> Shifted
+    ensures { result ≡ shifted (λ _. word) count }
 {
     if integer::is_negative(count) {
         return Shifted::NegativeCount;
     }
-    Shifted::Word(shl_at(kind, v, count))
+    Shifted::Word(word)
+}
+
+pub fn shl(kind: u64, v: u64, count: u64) -> Shifted
+    ensures { result ≡ shift_left (width_of kind) v count }
+{
+    answer(count, shl_at(kind, v, count))
 }
 
 pub fn shr(kind: u64, v: u64, count: u64) -> Shifted
     ensures { result ≡ shift_right (width_of kind) v count }
 {
-    if integer::is_negative(count) {
-        return Shifted::NegativeCount;
-    }
-    Shifted::Word(shr_at(kind, v, count))
+    answer(count, shr_at(kind, v, count))
 }
 
 pub fn ashr(kind: u64, v: u64, count: u64) -> Shifted
     ensures { result ≡ shift_right_arithmetic (width_of kind) v count }
 {
-    if integer::is_negative(count) {
-        return Shifted::NegativeCount;
-    }
-    Shifted::Word(ashr_at(kind, v, count))
+    answer(count, ashr_at(kind, v, count))
 }

@@ -1,7 +1,6 @@
 use Rattle.journal.specs.Entries.{closing}
 use Rattle.journal.proofs.entries.close.Goals as goal
 
--- NO GOAL for same_length : tie.Need-same-length
 pub returns : goal.returns
 unfolding closing
 returns c = c.put_entry.ensures

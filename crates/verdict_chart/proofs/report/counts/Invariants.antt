@@ -1,8 +1,0 @@
-use Rattle.std.proofs.Common.{◌-◌}
-use Rattle.verdict_chart.proofs.report.counts.Given as goal
-
-abbrev pub invariant-loop-verdict : goal.invariant-loop-verdict
-invariant-loop-verdict l = Unit {0}
-
-abbrev pub decreases-loop-verdict : goal.decreases-loop-verdict
-decreases-loop-verdict l = 5 - l.verdict
