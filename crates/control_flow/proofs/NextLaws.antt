@@ -1,4 +1,5 @@
 -- Where a row leads: the word of its condition as it is read, the next row by the family, and that it is a row or the end. Assumes nothing.
+use Rattle.std.proofs.Common.{Some, None, Ok, Err}
 use Prim.Native.Nat.{ℕ, ◌+◌, ◌<◌, ◌≤◌}
 use mathlib.Core.Bool.{Bool, true, false, cond, ◌||◌}
 use mathlib.Core.List.{List, [], ◌∷◌}
@@ -9,9 +10,8 @@ use lib.ListN.{get_or}
 use Rattle.tables.specs.Cases.{case_of}
 use Rattle.tables.specs.Family as family
 use Rattle.tables.specs.Lookup.{lookup_region}
-use Rattle.tables.specs.Outcome.{ok, refuse, ◌>>=◌}
+use Rattle.tables.specs.Outcome.{◌>>=◌}
 use Rattle.tables.specs.Rows.{instruction_rows, instruction_at}
-use Rattle.tables.specs.declared.lookup.Found.TheVariants.{At, Nothing}
 use Rattle.tables.specs.declared.rows.Instruction.{Instruction}
 use Rattle.tables.proofs.Cases.{Missed, other_arm, at_key, by_key, past_keys}
 use Rattle.tables.proofs.FirstLaws.{never}
@@ -25,15 +25,15 @@ use Rattle.control_flow.specs.Next.{condition_cell, condition_word, jump_on, lea
 -- ---- the condition's word, as it is looked up
 
 module _ (regions cells : List ℕ) (x : Instruction) where
-  pub word-undeclared : lookup_region regions x.first_name ≡ Nothing → 0 ≡ condition_word regions cells x
+  pub word-undeclared : lookup_region regions x.first_name ≡ None → 0 ≡ condition_word regions cells x
   unfolding condition_cell ◌>>=◌
   word-undeclared e = rw e
 
-  pub word_past : {r n : ℕ} → lookup_region regions x.first_name ≡ At r → indexed_of regions r x.first_index ≡ refuse n → 0 ≡ condition_word regions cells x
+  pub word_past : {r n : ℕ} → lookup_region regions x.first_name ≡ Some r → indexed_of regions r x.first_index ≡ Err n → 0 ≡ condition_word regions cells x
   unfolding condition_cell ◌>>=◌
   word_past e h = rw (e, h)
 
-  pub word-there : {r c : ℕ} → lookup_region regions x.first_name ≡ At r → indexed_of regions r x.first_index ≡ ok c → cell_word cells c ≡ condition_word regions cells x
+  pub word-there : {r c : ℕ} → lookup_region regions x.first_name ≡ Some r → indexed_of regions r x.first_index ≡ Ok c → cell_word cells c ≡ condition_word regions cells x
   unfolding condition_cell ◌>>=◌
   word-there e h = rw (e, h)
 

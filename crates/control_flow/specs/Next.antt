@@ -1,9 +1,9 @@
 -- 02, P4: "A taken jump goes to its LABEL's row (WHEN on 1, UNLESS on 0), HALT to the end." Where a row leads, by the cells before its step.
-use Rattle.std.specs.Prelude.{ℕ, ◌+◌, cond, List, [], ◌∷◌, eqb}
+use Rattle.std.specs.Prelude.{ℕ, ◌+◌, cond, List, [], ◌∷◌, eqb, Ok, Err}
 use Rattle.tables.specs.Cases.{case_of}
 use Rattle.tables.specs.Family as family
 use Rattle.tables.specs.Lookup.{lookup_region}
-use Rattle.tables.specs.Outcome.{Outcome, ok, refuse, ◌>>=◌}
+use Rattle.tables.specs.Outcome.{Outcome, ◌>>=◌}
 use Rattle.tables.specs.Rows.{instruction_rows, instruction_at}
 use Rattle.tables.specs.declared.rows.Instruction.{Instruction}
 use Rattle.labels.specs.Labels.{label_at, label_row}
@@ -18,8 +18,8 @@ condition_cell regions x = do
 
 -- its word. A row whose condition has no cell is refused, so the second line leads nowhere.
 abbrev pub word_on : List ℕ → Outcome ℕ → ℕ
-word_on cells (ok c) = cell_word cells c
-word_on cells (refuse number) = 0
+word_on cells (Ok c) = cell_word cells c
+word_on cells (Err number) = 0
 
 abbrev pub condition_word : List ℕ → List ℕ → Instruction → ℕ
 condition_word regions cells x = word_on cells (condition_cell regions x)

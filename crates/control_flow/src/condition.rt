@@ -3,7 +3,7 @@ ghost use Rattle.std.specs.Prelude.{◌≡◌};
 ghost use Rattle.control_flow.specs.Condition.{has_condition, condition_fits, conditions_fit};
 
 use tables::family;
-use tables::lookup::{Found, lookup_region};
+use tables::lookup::lookup_region;
 use tables::rows::{INSTRUCTION_WIDTH, Instruction, instruction_at, region_at};
 use words::kind;
 
@@ -20,7 +20,7 @@ fn condition_fits(regions: &[u64], x: Instruction) -> bool
     if !has_condition(x) {
         return true;
     }
-    let Found::At(r) = lookup_region(regions, x.first_name) else {
+    let Some(r) = lookup_region(regions, x.first_name) else {
         return false;
     };
     let region = region_at(regions, r);

@@ -7,9 +7,9 @@ ghost use Rattle.operands.specs.Reach.{Layout, There};
 ghost use Rattle.control_flow.specs.Next.{condition_word, next_row};
 
 use journal::cells::CELL_WIDTH;
-use operands::address::{Indexed, index_cell};
+use operands::address::index_cell;
 use tables::family;
-use tables::lookup::{Found, lookup_region};
+use tables::lookup::lookup_region;
 use tables::rows::{INSTRUCTION_WIDTH, Instruction, instruction_at};
 
 // The word of cell c.
@@ -25,10 +25,10 @@ fn condition_word(regions: &[u64], cells: &[u64], x: Instruction) -> u64
     requires { Layout regions.now cells.now }
     ensures { result ≡ condition_word regions.now cells.now x }
 {
-    let Found::At(r) = lookup_region(regions, x.first_name) else {
+    let Some(r) = lookup_region(regions, x.first_name) else {
         return 0;
     };
-    let Indexed::At(c) = index_cell(regions, r, x.first_index) else {
+    let Ok(c) = index_cell(regions, r, x.first_index) else {
         return 0;
     };
     word_at(cells, c)

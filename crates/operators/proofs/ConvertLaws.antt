@@ -1,4 +1,5 @@
 -- What refusal 22 says of a row; CONVERT's results. Assumes nothing.
+use Rattle.std.proofs.Common.{Option, Some, None}
 use Prim.Native.Nat.{ℕ, suc, ◌-◌, ◌^◌, ◌<◌}
 use mathlib.Core.Bool.{Bool, true, false, not, cond, ◌||◌, ◌&&◌}
 use mathlib.Core.List.{List}
@@ -12,11 +13,8 @@ use lib.Ieee.Fits.{round-fits}
 use Rattle.words.specs.Integer.{number, word}
 use Rattle.words.specs.Convert.{integer_to_real, is_finite, truncated, within_integer, real_to_integer}
 use Rattle.words.specs.WidthLaws.{word_below}
-use Rattle.words.specs.declared.convert.Converted.TheVariants.{Word, Outside}
 use Rattle.tables.specs.Lookup.{lookup_region}
 use Rattle.tables.specs.Rows.{region_kind}
-use Rattle.tables.specs.declared.lookup.Found.{Found}
-use Rattle.tables.specs.declared.lookup.Found.TheVariants.{At, Nothing}
 use Rattle.tables.specs.declared.rows.Instruction.{Instruction}
 use Rattle.tables.proofs.FirstLaws.{never}
 use Rattle.operators.specs.Convert.{convertible, both_convertible, is_convert, conversion_fits}
@@ -25,8 +23,8 @@ use Rattle.operators.specs.Convert.{convertible, both_convertible, is_convert, c
 pub record Convertible (regions : List ℕ) (x : Instruction) : Type 0 where
   pub to : ℕ
   pub from : ℕ
-  pub to_found : lookup_region regions x.first_name ≡ At to
-  pub from_found : lookup_region regions x.source_first ≡ At from
+  pub to_found : lookup_region regions x.first_name ≡ Some to
+  pub from_found : lookup_region regions x.source_first ≡ Some from
   pub kinds : convertible (region_kind regions to) (region_kind regions from) ≡ true
 
 pub conversion_kinds : (regions : List ℕ) (x : Instruction) → is_convert x ≡ true → conversion_fits regions x ≡ true → Convertible regions x
@@ -35,10 +33,10 @@ conversion_kinds regions x e h =
     at (lookup_region regions x.first_name) (lookup_region regions x.source_first) refl refl
     (ap (λ (t : Bool). not t || both_convertible regions (lookup_region regions x.first_name) (lookup_region regions x.source_first)) (sym e) ∙ h)
   where
-    at : (d s : Found) → lookup_region regions x.first_name ≡ d → lookup_region regions x.source_first ≡ s → both_convertible regions d s ≡ true → Convertible regions x
-    at (At d) (At s) p q k = record { to = d; from = s; to_found = p; from_found = q; kinds = k }
-    at (At d) Nothing p q k = never k
-    at Nothing s p q k = never k
+    at : (d s : Option ℕ) → lookup_region regions x.first_name ≡ d → lookup_region regions x.source_first ≡ s → both_convertible regions d s ≡ true → Convertible regions x
+    at (Some d) (Some s) p q k = record { to = d; from = s; to_found = p; from_found = q; kinds = k }
+    at (Some d) None p q k = never k
+    at None s p q k = never k
 
 -- ---- its results are words of 64 bits
 
@@ -50,21 +48,21 @@ integer_to_real-below a = to_bits-lt binary64 (of_int binary64 (number a)) (int_
     int_fits (pos n) = round-fits binary64 false n 1
     int_fits (negsuc n) = round-fits binary64 true (suc n) 1
 
-within_word : (z : ℤ) (r : ℕ) → within_integer z ≡ Word r → word z ≡ r
+within_word : (z : ℤ) (r : ℕ) → within_integer z ≡ Some r → word z ≡ r
 unfolding within_integer
 within_word z r e = at (le_z (neg_ℤ (pos (2 ^ 63))) z && le_z z (pos (2 ^ 63 - 1))) e
   where
-    at : (t : Bool) → cond t (Word (word z)) Outside ≡ Word r → word z ≡ r
+    at : (t : Bool) → cond t (Some (word z)) None ≡ Some r → word z ≡ r
     at true q = cc
     at false q = cc
 
-real_to_integer-word : (a r : ℕ) → real_to_integer a ≡ Word r → word (truncated a) ≡ r
+real_to_integer-word : (a r : ℕ) → real_to_integer a ≡ Some r → word (truncated a) ≡ r
 unfolding real_to_integer
 real_to_integer-word a r e = at (is_finite a) e
   where
-    at : (t : Bool) → cond t (within_integer (truncated a)) Outside ≡ Word r → word (truncated a) ≡ r
+    at : (t : Bool) → cond t (within_integer (truncated a)) None ≡ Some r → word (truncated a) ≡ r
     at true q = within_word (truncated a) r q
     at false q = cc
 
-pub real_to_integer-below : (a r : ℕ) → real_to_integer a ≡ Word r → r < 2 ^ 64
+pub real_to_integer-below : (a r : ℕ) → real_to_integer a ≡ Some r → r < 2 ^ 64
 real_to_integer-below a r e = subst (λ (n : ℕ). n < 2 ^ 64) (real_to_integer-word a r e) (word_below 64 (truncated a))

@@ -1,17 +1,13 @@
 -- 02, P5, CONVERT: which kinds have a rule, its result, and which declared kinds open passes. The quoted sentences are 02's.
-use Rattle.std.specs.Prelude.{ℕ, Bool, false, not, cond, ◌||◌, ◌&&◌, List, eqb}
+use Rattle.std.specs.Prelude.{ℕ, Bool, false, not, cond, ◌||◌, ◌&&◌, List, eqb, Option, Some, None, Ok, Err}
 use Rattle.words.specs.Kind.{integer, real}
 use Rattle.words.specs.Convert.{integer_to_real, real_to_integer}
-use Rattle.words.specs.declared.convert.Converted.{Converted}
-use Rattle.words.specs.declared.convert.Converted.TheVariants.{Word, Outside}
 use Rattle.tables.specs.Family as family
 use Rattle.tables.specs.First.{every}
 use Rattle.tables.specs.Lookup.{lookup_region}
-use Rattle.tables.specs.Outcome.{Outcome, ok, refuse}
+use Rattle.tables.specs.Outcome.{Outcome}
 use Rattle.tables.specs.Refusal.{outside_integer}
 use Rattle.tables.specs.Rows.{region_kind, instruction_rows, instruction_at}
-use Rattle.tables.specs.declared.lookup.Found.{Found}
-use Rattle.tables.specs.declared.lookup.Found.TheVariants.{At, Nothing}
 use Rattle.tables.specs.declared.rows.Instruction.{Instruction}
 
 -- ---- the step
@@ -25,12 +21,12 @@ abbrev pub converted_kind : ℕ → ℕ
 converted_kind source = cond (eqb source real) integer real
 
 -- "with 23 .. a NaN, an infinity or a value outside -2^63 to 2^63-1 after the fraction is dropped"
-abbrev pub converted_outcome : Converted → Outcome ℕ
-converted_outcome (Word w) = ok w
-converted_outcome Outside = refuse outside_integer
+abbrev pub converted_outcome : Option ℕ → Outcome ℕ
+converted_outcome (Some w) = Ok w
+converted_outcome None = Err outside_integer
 
 unfoldable pub convert_result : ℕ → ℕ → Outcome ℕ
-convert_result source word = cond (eqb source real) (converted_outcome (real_to_integer word)) (ok (integer_to_real word))
+convert_result source word = cond (eqb source real) (converted_outcome (real_to_integer word)) (Ok (integer_to_real word))
 
 -- ---- "It refuses with 22, in open after 21, another pair of kinds or an undeclared name"
 
@@ -38,10 +34,10 @@ convert_result source word = cond (eqb source real) (converted_outcome (real_to_
 abbrev pub convertible : ℕ → ℕ → Bool
 convertible destination source = (eqb destination real && eqb source integer) || (eqb destination integer && eqb source real)
 
-abbrev pub both_convertible : List ℕ → Found → Found → Bool
-both_convertible regions (At d) (At s) = convertible (region_kind regions d) (region_kind regions s)
-both_convertible regions (At d) Nothing = false
-both_convertible regions Nothing s = false
+abbrev pub both_convertible : List ℕ → Option ℕ → Option ℕ → Bool
+both_convertible regions (Some d) (Some s) = convertible (region_kind regions d) (region_kind regions s)
+both_convertible regions (Some d) None = false
+both_convertible regions None s = false
 
 abbrev pub is_convert : Instruction → Bool
 is_convert x = eqb x.family family.convert

@@ -1,15 +1,11 @@
 -- Which operand kinds have a rule, and the result of each operator. The loader lets no other operator pass: the rest of each definition by operators, 0 or false, is never reached.
-use Rattle.std.specs.Prelude.{ℕ, Bool, false, cond, ◌||◌, ◌&&◌, List, [], ◌∷◌, eqb, ltb}
+use Rattle.std.specs.Prelude.{ℕ, Bool, false, cond, ◌||◌, ◌&&◌, List, [], ◌∷◌, eqb, ltb, Option, Some, None, Ok, Err}
 use Rattle.words.specs.Kind.{integer, real, integer_literal, real_literal, width_of}
 use Rattle.words.specs.Integer as Z
 use Rattle.reals.specs.Real as R
 use Rattle.words.specs.Width.{not_at, and_at, ior_at, xor_at, shift_left, shift_right, shift_right_arithmetic}
-use Rattle.words.specs.declared.integer.Quotient.{Quotient}
-use Rattle.words.specs.declared.integer.Quotient.TheVariants as Q
-use Rattle.words.specs.declared.width.Shifted.{Shifted}
-use Rattle.words.specs.declared.width.Shifted.TheVariants as S
 use Rattle.tables.specs.Refusal.{zero_divisor, negative_shift_count}
-use Rattle.tables.specs.Outcome.{Outcome, ok, refuse}
+use Rattle.tables.specs.Outcome.{Outcome}
 use Rattle.tables.specs.Cases.{case_of}
 use Rattle.tables.specs.Operator as operator
 
@@ -26,20 +22,20 @@ abbrev pub arithmetic_kinds : ℕ → ℕ → Bool
 arithmetic_kinds d s = (eqb d integer || eqb d real) && eqb d (own_kind s)
 
 -- "15 INTEGER zero divisor"
-abbrev pub quotient_outcome : Quotient → Outcome ℕ
-quotient_outcome (Q.Word w) = ok w
-quotient_outcome Q.ZeroDivisor = refuse zero_divisor
+abbrev pub quotient_outcome : Option ℕ → Outcome ℕ
+quotient_outcome (Some w) = Ok w
+quotient_outcome None = Err zero_divisor
 
 abbrev pub integer_results : ℕ → ℕ → List (ℕ × Outcome ℕ)
 integer_results a b =
-    (operator.add, ok (Z.integer_add a b))
-    ∷ (operator.subtract, ok (Z.integer_subtract a b))
+    (operator.add, Ok (Z.integer_add a b))
+    ∷ (operator.subtract, Ok (Z.integer_subtract a b))
     ∷ (operator.divide, quotient_outcome (Z.integer_divide a b))
-    ∷ (operator.multiply, ok (Z.integer_multiply a b))
+    ∷ (operator.multiply, Ok (Z.integer_multiply a b))
     ∷ []
 
 unfoldable pub integer_result : ℕ → ℕ → ℕ → Outcome ℕ
-integer_result which a b = case_of which (integer_results a b) (ok 0)
+integer_result which a b = case_of which (integer_results a b) (Ok 0)
 
 abbrev pub real_results : ℕ → ℕ → List (ℕ × ℕ)
 real_results a b =
@@ -53,7 +49,7 @@ unfoldable pub real_result : ℕ → ℕ → ℕ → ℕ
 real_result which a b = case_of which (real_results a b) 0
 
 unfoldable pub arithmetic_result : ℕ → ℕ → ℕ → ℕ → Outcome ℕ
-arithmetic_result which kind a b = cond (eqb kind real) (ok (real_result which a b)) (integer_result which a b)
+arithmetic_result which kind a b = cond (eqb kind real) (Ok (real_result which a b)) (integer_result which a b)
 
 -- ---- comparison
 
@@ -100,23 +96,23 @@ abbrev pub logic_kinds : ℕ → ℕ → Bool
 logic_kinds d s = ltb d real && (ltb s real || eqb s integer_literal)
 
 -- "16 negative shift count"
-abbrev pub shifted_outcome : Shifted → Outcome ℕ
-shifted_outcome (S.Word w) = ok w
-shifted_outcome S.NegativeCount = refuse negative_shift_count
+abbrev pub shifted_outcome : Option ℕ → Outcome ℕ
+shifted_outcome (Some w) = Ok w
+shifted_outcome None = Err negative_shift_count
 
 -- w is "the destination's width". BIT and OCTET counts are never negative.
 abbrev pub logic_results : ℕ → ℕ → ℕ → List (ℕ × Outcome ℕ)
 logic_results w v s =
-    (operator.and, ok (and_at w v s))
-    ∷ (operator.ior, ok (ior_at w v s))
-    ∷ (operator.xor, ok (xor_at w v s))
+    (operator.and, Ok (and_at w v s))
+    ∷ (operator.ior, Ok (ior_at w v s))
+    ∷ (operator.xor, Ok (xor_at w v s))
     ∷ (operator.shl, shifted_outcome (shift_left w v s))
     ∷ (operator.shr, shifted_outcome (shift_right w v s))
     ∷ (operator.ashr, shifted_outcome (shift_right_arithmetic w v s))
     ∷ []
 
 unfoldable pub logic_result : ℕ → ℕ → ℕ → ℕ → Outcome ℕ
-logic_result which kind v s = case_of which (logic_results (width_of kind) v s) (ok 0)
+logic_result which kind v s = case_of which (logic_results (width_of kind) v s) (Ok 0)
 
 -- ---- unary
 

@@ -3,9 +3,9 @@ ghost use Rattle.std.specs.Prelude.{◌≡◌};
 ghost use Rattle.operators.specs.Convert.{convert_kinds, converted_kind, converted_outcome, convert_result, convertible, conversion_fits, conversions_fit};
 
 use tables::family;
-use tables::lookup::{Found, lookup_region};
+use tables::lookup::lookup_region;
 use tables::rows::{INSTRUCTION_WIDTH, Instruction, instruction_at, region_at};
-use words::convert::{Converted, integer_to_real, real_to_integer};
+use words::convert::{integer_to_real, real_to_integer};
 use words::kind;
 
 pub fn convert_kinds(source: u64) -> bool
@@ -24,13 +24,13 @@ pub fn converted_kind(source: u64) -> u64
 }
 
 #[tactic(auto, unfolding(crate::specs::Convert::convert_result))]
-pub fn convert_result(source: u64, word: u64) -> Converted
+pub fn convert_result(source: u64, word: u64) -> Option<u64>
     ensures { converted_outcome result ≡ convert_result source word }
 {
     if source == kind::REAL {
         return real_to_integer(word);
     }
-    Converted::Word(integer_to_real(word))
+    Some(integer_to_real(word))
 }
 
 fn kinds_convert(destination: u64, source: u64) -> bool
@@ -47,10 +47,10 @@ fn conversion_fits(regions: &[u64], x: Instruction) -> bool
     if x.family != family::CONVERT {
         return true;
     }
-    let Found::At(d) = lookup_region(regions, x.first_name) else {
+    let Some(d) = lookup_region(regions, x.first_name) else {
         return false;
     };
-    let Found::At(s) = lookup_region(regions, x.source_first) else {
+    let Some(s) = lookup_region(regions, x.source_first) else {
         return false;
     };
     let destination = region_at(regions, d);

@@ -8,8 +8,6 @@ ghost use Rattle.operators.specs.Operators.{own_kind, arithmetic_kinds, quotient
 
 use reals::real;
 use tables::operator;
-use words::integer::Quotient;
-use words::width::Shifted;
 use words::{integer, kind, width};
 
 // A literal counts as its own kind.
@@ -31,15 +29,15 @@ pub fn arithmetic_kinds(d: u64, s: u64) -> bool
 
 // INTEGER and REAL have a match each: a trait of both would state each of their nine functions twice, as a method with a ghost member and at two impls.
 #[tactic(auto, unfolding(crate::specs::Operators::integer_result, tables::specs::Cases::case_of))]
-fn integer_result(operator: u64, a: u64, b: u64) -> Quotient
+fn integer_result(operator: u64, a: u64, b: u64) -> Option<u64>
     ensures { quotient_outcome result ≡ integer_result operator a b }
 {
     match operator {
-        operator::ADD => Quotient::Word(integer::add(a, b)),
-        operator::SUBTRACT => Quotient::Word(integer::subtract(a, b)),
+        operator::ADD => Some(integer::add(a, b)),
+        operator::SUBTRACT => Some(integer::subtract(a, b)),
         operator::DIVIDE => integer::divide(a, b),
-        operator::MULTIPLY => Quotient::Word(integer::multiply(a, b)),
-        _ => Quotient::Word(0),
+        operator::MULTIPLY => Some(integer::multiply(a, b)),
+        _ => Some(0),
     }
 }
 
@@ -57,11 +55,11 @@ fn real_result(operator: u64, a: u64, b: u64) -> u64
 }
 
 #[tactic(auto, unfolding(crate::specs::Operators::arithmetic_result))]
-pub fn arithmetic_result(operator: u64, kind: u64, a: u64, b: u64) -> Quotient
+pub fn arithmetic_result(operator: u64, kind: u64, a: u64, b: u64) -> Option<u64>
     ensures { quotient_outcome result ≡ arithmetic_result operator kind a b }
 {
     if kind == kind::REAL {
-        return Quotient::Word(real_result(operator, a, b));
+        return Some(real_result(operator, a, b));
     }
     integer_result(operator, a, b)
 }
@@ -131,17 +129,17 @@ pub fn logic_kinds(d: u64, s: u64) -> bool
 }
 
 #[tactic(auto, unfolding(crate::specs::Operators::logic_result, tables::specs::Cases::case_of))]
-pub fn logic_result(operator: u64, kind: u64, v: u64, s: u64) -> Shifted
+pub fn logic_result(operator: u64, kind: u64, v: u64, s: u64) -> Option<u64>
     ensures { shifted_outcome result ≡ logic_result operator kind v s }
 {
     match operator {
-        operator::AND => Shifted::Word(width::and(kind, v, s)),
-        operator::IOR => Shifted::Word(width::ior(kind, v, s)),
-        operator::XOR => Shifted::Word(width::xor(kind, v, s)),
+        operator::AND => Some(width::and(kind, v, s)),
+        operator::IOR => Some(width::ior(kind, v, s)),
+        operator::XOR => Some(width::xor(kind, v, s)),
         operator::SHL => width::shl(kind, v, s),
         operator::SHR => width::shr(kind, v, s),
         operator::ASHR => width::ashr(kind, v, s),
-        _ => Shifted::Word(0),
+        _ => Some(0),
     }
 }
 

@@ -1,12 +1,11 @@
 -- A REAL's size without its fraction, by shifts, and the answer. Assumes nothing.
-use Rattle.std.proofs.Common.{◌≡◌, ℕ, zero, suc, ◌+◌, ◌-◌, ◌*◌, ◌/◌, ◌%◌, ◌^◌, ◌<◌, ◌≤◌, Bool, true, false, cond, not, pos, neg_ℤ, sym, refl, ap, ◌∙◌, ap₂, le_trans, lt_of_lt_of_le, le-add_right, le_of_lt, mul-le-mul_right, mod-eq_of_lt, mul_assoc, mul-le-mul_left, le-div_iff_mul-le, arith, lit≤, pow_pos, pow_mono, pow-add, shl_lt, shl_exact, shr-shr, ne_eqb, le-leb}
+use Rattle.std.proofs.Common.{◌≡◌, ℕ, zero, suc, ◌+◌, ◌-◌, ◌*◌, ◌/◌, ◌%◌, ◌^◌, ◌<◌, ◌≤◌, Bool, true, false, cond, not, pos, neg_ℤ, sym, refl, ap, ◌∙◌, ap₂, le_trans, lt_of_lt_of_le, le-add_right, le_of_lt, mul-le-mul_right, mod-eq_of_lt, mul_assoc, mul-le-mul_left, le-div_iff_mul-le, arith, lit≤, pow_pos, pow_mono, pow-add, shl_lt, shl_exact, shr-shr, ne_eqb, le-leb, Some, None}
 use Rattle.std.proofs.Math.Nat.{div-eq_of_lt}
 use Rattle.std.specs.Int.Signed.{quot_z}
 use Rattle.std.proofs.Math.Pow.{shl-shr}
 use Rattle.std.proofs.lemmas.Bool.{lt-leb}
 use Rattle.words.specs.TwosComplement.{word_of}
 use Rattle.words.specs.Convert.{is_negative, exponent, fraction, is_finite, units_at, units_of_one, with_sign, units, truncated, within_integer, real_to_integer}
-use Rattle.words.specs.declared.convert.Converted.TheVariants.{Word, Outside}
 use Rattle.words.proofs.Units.{with_lead}
 
 -- ---- q * 2 ^ j units, cut to a whole number
@@ -86,11 +85,11 @@ last_above k h = omega arith
 word_fits : (k : ℕ) → k < 2 ^ 63 → k < 2 ^ 64
 word_fits k h = omega arith
 
-within_pos : (k : ℕ) → k < 2 ^ 63 → Word k ≡ within_integer (pos k)
+within_pos : (k : ℕ) → k < 2 ^ 63 → Some k ≡ within_integer (pos k)
 unfolding within_integer word_of
-within_pos k h = rw (le-leb k (2 ^ 63 - 1) (last_below k h)) (ap Word (sym (mod-eq_of_lt (word_fits k h))))
+within_pos k h = rw (le-leb k (2 ^ 63 - 1) (last_below k h)) (ap Some (sym (mod-eq_of_lt (word_fits k h))))
 
-beyond_pos : (k : ℕ) → 2 ^ 63 ≤ k → Outside ≡ within_integer (pos k)
+beyond_pos : (k : ℕ) → 2 ^ 63 ≤ k → None ≡ within_integer (pos k)
 unfolding within_integer
 beyond_pos k h = rw (lt-leb k (2 ^ 63 - 1) (last_above k h))
 
@@ -100,15 +99,15 @@ zero_word r h e = omega arith
 neg_word : (j r : ℕ) → suc j ≤ 2 ^ 63 → r < 2 ^ 64 → (r + suc j) % 2 ^ 64 ≡ 0 → r ≡ 2 ^ 64 - suc (j % 2 ^ 64)
 neg_word j r l h e = omega arith
 
-within-neg : (k r : ℕ) → k ≤ 2 ^ 63 → r < 2 ^ 64 → (r + k) % 2 ^ 64 ≡ 0 → Word r ≡ within_integer (neg_ℤ (pos k))
+within-neg : (k r : ℕ) → k ≤ 2 ^ 63 → r < 2 ^ 64 → (r + k) % 2 ^ 64 ≡ 0 → Some r ≡ within_integer (neg_ℤ (pos k))
 unfolding within_integer word_of
-within-neg zero r l h e = ap Word (zero_word r h e)
-within-neg (suc j) r l h e = rw (le-leb j (2 ^ 63 - 1) (last_below j l)) (ap Word (neg_word j r l h e))
+within-neg zero r l h e = ap Some (zero_word r h e)
+within-neg (suc j) r l h e = rw (le-leb j (2 ^ 63 - 1) (last_below j l)) (ap Some (neg_word j r l h e))
 
 neg_above : (j : ℕ) → 2 ^ 63 < suc j → 2 ^ 63 - 1 < j
 neg_above j h = omega arith
 
-beyond_neg : (k : ℕ) → 2 ^ 63 < k → Outside ≡ within_integer (neg_ℤ (pos k))
+beyond_neg : (k : ℕ) → 2 ^ 63 < k → None ≡ within_integer (neg_ℤ (pos k))
 unfolding within_integer
 beyond_neg zero h = absurd (none (2 ^ 63) h)
 beyond_neg (suc j) h = rw (lt-leb j (2 ^ 63 - 1) (neg_above j h))
@@ -127,7 +126,7 @@ module _ (a k : ℕ) (K : k ≡ units_at (exponent a) (fraction a) / units_of_on
 
   answer : (s : Bool) → is_negative a ≡ s → is_finite a ≡ true → within_integer (with_sign s k) ≡ real_to_integer a
   unfolding real_to_integer
-  answer s g f = sym (ap (λ (t : Bool). cond t (within_integer (truncated a)) Outside) f ∙ ap within_integer (cut s g))
+  answer s g f = sym (ap (λ (t : Bool). cond t (within_integer (truncated a)) None) f ∙ ap within_integer (cut s g))
 
   module _ (x : exponent a ≤ 1086) where
     finite : is_finite a ≡ true
@@ -136,33 +135,33 @@ module _ (a k : ℕ) (K : k ≡ units_at (exponent a) (fraction a) / units_of_on
         no : (n : ℕ) → n ≤ 1086 → n ≡ 2047 → ⊥
         no n h e = omega arith
 
-    pub given_pos : a < 2 ^ 63 → k < 2 ^ 63 → Word k ≡ real_to_integer a
+    pub given_pos : a < 2 ^ 63 → k < 2 ^ 63 → Some k ≡ real_to_integer a
     given_pos h l = within_pos k l ∙ answer false (lt-leb (2 ^ 63) a h) finite
 
-    pub refused_pos : a < 2 ^ 63 → 2 ^ 63 ≤ k → Outside ≡ real_to_integer a
+    pub refused_pos : a < 2 ^ 63 → 2 ^ 63 ≤ k → None ≡ real_to_integer a
     refused_pos h l = beyond_pos k l ∙ answer false (lt-leb (2 ^ 63) a h) finite
 
-    pub given_neg : (r : ℕ) → 2 ^ 63 ≤ a → k ≤ 2 ^ 63 → r < 2 ^ 64 → (r + k) % 2 ^ 64 ≡ 0 → Word r ≡ real_to_integer a
+    pub given_neg : (r : ℕ) → 2 ^ 63 ≤ a → k ≤ 2 ^ 63 → r < 2 ^ 64 → (r + k) % 2 ^ 64 ≡ 0 → Some r ≡ real_to_integer a
     given_neg r h l b e = within-neg k r l b e ∙ answer true (le-leb (2 ^ 63) a h) finite
 
-    pub refused-neg : 2 ^ 63 ≤ a → 2 ^ 63 < k → Outside ≡ real_to_integer a
+    pub refused-neg : 2 ^ 63 ≤ a → 2 ^ 63 < k → None ≡ real_to_integer a
     refused-neg h l = beyond_neg k l ∙ answer true (le-leb (2 ^ 63) a h) finite
 
 over : (k : ℕ) → 2 ^ 64 ≤ k → 2 ^ 63 < k
 over k h = omega arith
 
-beyond : (s : Bool) (k : ℕ) → 2 ^ 63 < k → Outside ≡ within_integer (with_sign s k)
+beyond : (s : Bool) (k : ℕ) → 2 ^ 63 < k → None ≡ within_integer (with_sign s k)
 beyond true k h = beyond_neg k h
 beyond false k h = beyond_pos k (le_of_lt h)
 
-unanswered : (a : ℕ) → is_finite a ≡ false → Outside ≡ real_to_integer a
+unanswered : (a : ℕ) → is_finite a ≡ false → None ≡ real_to_integer a
 unfolding real_to_integer
-unanswered a f = sym (ap (λ (t : Bool). cond t (within_integer (truncated a)) Outside) f)
+unanswered a f = sym (ap (λ (t : Bool). cond t (within_integer (truncated a)) None) f)
 
-pub refused_high : (a : ℕ) → 1086 < exponent a → Outside ≡ real_to_integer a
+pub refused_high : (a : ℕ) → 1086 < exponent a → None ≡ real_to_integer a
 refused_high a h = go (is_finite a) refl
   where
-    go : (t : Bool) → is_finite a ≡ t → Outside ≡ real_to_integer a
+    go : (t : Bool) → is_finite a ≡ t → None ≡ real_to_integer a
     go true f =
         let k = units_at (exponent a) (fraction a) / units_of_one in
         beyond (is_negative a) k (over k (cut_high (exponent a) (fraction a) h)) ∙ answer a k refl (is_negative a) refl f

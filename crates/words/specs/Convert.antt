@@ -1,10 +1,8 @@
 -- 02, P5: CONVERT between INTEGER words and REAL words. The quoted sentences are 02's.
-use Rattle.std.specs.Prelude.{ℕ, zero, suc, ◌+◌, ◌-◌, ◌*◌, ◌/◌, ◌%◌, ◌^◌, Bool, cond, not, ◌&&◌, ℤ, pos, neg_ℤ, ◌==◌, int_div, int_le, nat_le, to_bits}
+use Rattle.std.specs.Prelude.{ℕ, zero, suc, ◌+◌, ◌-◌, ◌*◌, ◌/◌, ◌%◌, ◌^◌, Bool, cond, not, ◌&&◌, ℤ, pos, neg_ℤ, ◌==◌, int_div, int_le, nat_le, to_bits, Option, Some, None}
 use Rattle.std.specs.Float.{binary64}
 use Rattle.std.specs.Float.Ieee.{of_int}
 use Rattle.words.specs.Integer.{number, word}
-use Rattle.words.specs.declared.convert.Converted.{Converted}
-use Rattle.words.specs.declared.convert.Converted.TheVariants.{Word, Outside}
 
 -- "INTEGER to REAL gives the nearest binary64, ties to even". `of_int` rounds once; Closest.antt says over whole numbers what comes of it.
 unfoldable pub integer_to_real : ℕ → ℕ
@@ -49,9 +47,9 @@ unfoldable pub truncated : ℕ → ℤ
 truncated a = int_div (units a) (pos units_of_one)
 
 -- no "value outside -2^63 to 2^63-1 after the fraction is dropped"
-unfoldable pub within_integer : ℤ → Converted
-within_integer z = cond (int_le (neg_ℤ (pos (2 ^ 63))) z && int_le z (pos (2 ^ 63 - 1))) (Word (word z)) Outside
+unfoldable pub within_integer : ℤ → Option ℕ
+within_integer z = cond (int_le (neg_ℤ (pos (2 ^ 63))) z && int_le z (pos (2 ^ 63 - 1))) (Some (word z)) None
 
 -- nor "a NaN, an infinity"
-unfoldable pub real_to_integer : ℕ → Converted
-real_to_integer a = cond (is_finite a) (within_integer (truncated a)) Outside
+unfoldable pub real_to_integer : ℕ → Option ℕ
+real_to_integer a = cond (is_finite a) (within_integer (truncated a)) None

@@ -1,9 +1,8 @@
 -- 02, P5: CONVERT at its edges, computed; the quoted words are 02's. The word of -n is 2 ^ 64 - n.
-use Rattle.std.specs.Prelude.{◌≡◌, ◌+◌, ◌-◌, ◌^◌, refl}
+use Rattle.std.specs.Prelude.{◌≡◌, ◌+◌, ◌-◌, ◌^◌, refl, Some, None}
 use Rattle.std.specs.Float.Ieee.{of_int, to_bits}
 use Rattle.words.specs.TwosComplement.{signed, word_of}
 use Rattle.words.specs.Convert.{integer_to_real, units_at, units, truncated, within_integer, real_to_integer}
-use Rattle.words.specs.declared.convert.Converted.TheVariants.{Word, Outside}
 
 -- ---- "the nearest binary64, ties to even"
 
@@ -35,7 +34,7 @@ greatest_integer : integer_to_real (2 ^ 63 - 1) ≡ 0x43E0_0000_0000_0000
 unfolding integer_to_real signed of_int to_bits
 greatest_integer = refl
 
-first_outside : real_to_integer 0x43E0_0000_0000_0000 ≡ Outside
+first_outside : real_to_integer 0x43E0_0000_0000_0000 ≡ None
 unfolding real_to_integer within_integer truncated units units_at word_of
 first_outside = refl
 
@@ -44,37 +43,37 @@ least_integer : integer_to_real (2 ^ 63) ≡ 0xC3E0_0000_0000_0000
 unfolding integer_to_real signed of_int to_bits
 least_integer = refl
 
-least_inside : real_to_integer 0xC3E0_0000_0000_0000 ≡ Word (2 ^ 63)
+least_inside : real_to_integer 0xC3E0_0000_0000_0000 ≡ Some (2 ^ 63)
 unfolding real_to_integer within_integer truncated units units_at word_of
 least_inside = refl
 
 -- ---- "drops the fraction"
 
 -- the REAL before 2 ^ 63
-last_inside : real_to_integer 0x43DF_FFFF_FFFF_FFFF ≡ Word (2 ^ 63 - 1024)
+last_inside : real_to_integer 0x43DF_FFFF_FFFF_FFFF ≡ Some (2 ^ 63 - 1024)
 unfolding real_to_integer within_integer truncated units units_at word_of
 last_inside = refl
 
 -- -2.5
-minus_two_and_a_half : real_to_integer 0xC004_0000_0000_0000 ≡ Word (2 ^ 64 - 2)
+minus_two_and_a_half : real_to_integer 0xC004_0000_0000_0000 ≡ Some (2 ^ 64 - 2)
 unfolding real_to_integer within_integer truncated units units_at word_of
 minus_two_and_a_half = refl
 
 -- -0.9 and -0.0
-minus_less_than_one : real_to_integer 0xBFEC_CCCC_CCCC_CCCD ≡ Word 0
+minus_less_than_one : real_to_integer 0xBFEC_CCCC_CCCC_CCCD ≡ Some 0
 unfolding real_to_integer within_integer truncated units units_at word_of
 minus_less_than_one = refl
 
-minus_zero : real_to_integer 0x8000_0000_0000_0000 ≡ Word 0
+minus_zero : real_to_integer 0x8000_0000_0000_0000 ≡ Some 0
 unfolding real_to_integer within_integer truncated units units_at word_of
 minus_zero = refl
 
 -- ---- "a NaN, an infinity"
 
-not_a_number : real_to_integer 0x7FF8_0000_0000_0000 ≡ Outside
+not_a_number : real_to_integer 0x7FF8_0000_0000_0000 ≡ None
 unfolding real_to_integer
 not_a_number = refl
 
-infinity : real_to_integer 0x7FF0_0000_0000_0000 ≡ Outside
+infinity : real_to_integer 0x7FF0_0000_0000_0000 ≡ None
 unfolding real_to_integer
 infinity = refl

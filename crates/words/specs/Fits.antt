@@ -1,5 +1,5 @@
 -- Every INTEGER result and every result of bits is a word of its kind: the width laws used at 1, 8 and 64. Assumes nothing.
-use Rattle.std.specs.Prelude.{◌≡◌, ℕ, ◌^◌, ◌<◌, Bool, true, false, cond, ◌&&◌, ◌+ℤ◌, ◌-ℤ◌, ◌*ℤ◌, neg_ℤ, ◌==◌, int_div, nat_lt, refl}
+use Rattle.std.specs.Prelude.{◌≡◌, ℕ, ◌^◌, ◌<◌, Bool, true, false, cond, ◌&&◌, ◌+ℤ◌, ◌-ℤ◌, ◌*ℤ◌, neg_ℤ, ◌==◌, int_div, nat_lt, refl, Some, None}
 use Rattle.std.proofs.Common.{subst, lit<}
 use Rattle.std.proofs.lemmas.Bool.{false≢true}
 use borrow.Author.Tests.{ltb-true, lt-ltb}
@@ -7,8 +7,6 @@ use Rattle.words.specs.Kind.{width_of, fits_kind}
 use Rattle.words.specs.Integer.{number, integer_add, integer_subtract, integer_multiply, integer_negate, integer_quotient, integer_divide}
 use Rattle.words.specs.Width.{not_at, and_at, ior_at, xor_at, shl_at, shr_at, ashr_at, shifted, shift_left, shift_right, shift_right_arithmetic}
 use Rattle.words.specs.WidthLaws.{word_below, not-below, and_below, ior-below, xor_below, shl_below, shr_below, ashr-below, shifted-word}
-use Rattle.words.specs.declared.integer.Quotient.TheVariants as quotient
-use Rattle.words.specs.declared.width.Shifted.TheVariants as answers
 
 -- ---- INTEGER results
 
@@ -28,15 +26,15 @@ pub integer_negate-below : (a : ℕ) → integer_negate a < 2 ^ 64
 unfolding integer_negate
 integer_negate-below a = word_below 64 (neg_ℤ (number a))
 
-pub integer_divide-word : (a b r : ℕ) → integer_divide a b ≡ quotient.Word r → integer_quotient a b ≡ r
+pub integer_divide-word : (a b r : ℕ) → integer_divide a b ≡ Some r → integer_quotient a b ≡ r
 unfolding integer_divide
 integer_divide-word a b r e = at (b == 0) e
   where
-    at : (t : Bool) → cond t quotient.ZeroDivisor (quotient.Word (integer_quotient a b)) ≡ quotient.Word r → integer_quotient a b ≡ r
+    at : (t : Bool) → cond t None (Some (integer_quotient a b)) ≡ Some r → integer_quotient a b ≡ r
     at true q = cc
     at false q = cc
 
-pub integer_divide-below : (a b r : ℕ) → integer_divide a b ≡ quotient.Word r → r < 2 ^ 64
+pub integer_divide-below : (a b r : ℕ) → integer_divide a b ≡ Some r → r < 2 ^ 64
 unfolding integer_quotient
 integer_divide-below a b r e =
     subst (λ (n : ℕ). n < 2 ^ 64) (integer_divide-word a b r e) (word_below 64 (int_div (number a) (number b)))
@@ -89,17 +87,17 @@ module _ (kind v : ℕ) (f : fits_kind kind v ≡ true) where
   pub xor_at-fits : (s : ℕ) → fits_kind kind (xor_at (width_of kind) v s) ≡ true
   xor_at-fits s = fit _ (xor_below (width_of kind) v s small)
 
-  answer-fits : (shift : ℕ → ℕ) (count r : ℕ) → shift count < 2 ^ width_of kind → shifted shift count ≡ answers.Word r → fits_kind kind r ≡ true
+  answer-fits : (shift : ℕ → ℕ) (count r : ℕ) → shift count < 2 ^ width_of kind → shifted shift count ≡ Some r → fits_kind kind r ≡ true
   answer-fits shift count r h e = fit r (subst (λ (n : ℕ). n < 2 ^ width_of kind) (shifted-word shift count r e) h)
 
-  pub shift_left-fits : (count r : ℕ) → shift_left (width_of kind) v count ≡ answers.Word r → fits_kind kind r ≡ true
+  pub shift_left-fits : (count r : ℕ) → shift_left (width_of kind) v count ≡ Some r → fits_kind kind r ≡ true
   unfolding shift_left
   shift_left-fits count r e = answer-fits (shl_at (width_of kind) v) count r (shl_below (width_of kind) v count) e
 
-  pub shift_right-fits : (count r : ℕ) → shift_right (width_of kind) v count ≡ answers.Word r → fits_kind kind r ≡ true
+  pub shift_right-fits : (count r : ℕ) → shift_right (width_of kind) v count ≡ Some r → fits_kind kind r ≡ true
   unfolding shift_right
   shift_right-fits count r e = answer-fits (shr_at (width_of kind) v) count r (shr_below (width_of kind) v count small) e
 
-  pub shift_right_arithmetic-fits : (count r : ℕ) → shift_right_arithmetic (width_of kind) v count ≡ answers.Word r → fits_kind kind r ≡ true
+  pub shift_right_arithmetic-fits : (count r : ℕ) → shift_right_arithmetic (width_of kind) v count ≡ Some r → fits_kind kind r ≡ true
   unfolding shift_right_arithmetic
   shift_right_arithmetic-fits count r e = answer-fits (ashr_at (width_of kind) v) count r (ashr-below (width_of kind) v count) e

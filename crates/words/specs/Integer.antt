@@ -1,8 +1,6 @@
 -- INTEGER words: the operators are those of the whole numbers; a result is taken modulo 2 ^ 64.
-use Rattle.std.specs.Prelude.{ℕ, Bool, false, cond, ℤ, pos, negsuc, ◌+ℤ◌, ◌-ℤ◌, ◌*ℤ◌, neg_ℤ, ◌==◌, int_div, int_le, int_lt}
+use Rattle.std.specs.Prelude.{ℕ, Bool, false, cond, ℤ, pos, negsuc, ◌+ℤ◌, ◌-ℤ◌, ◌*ℤ◌, neg_ℤ, ◌==◌, int_div, int_le, int_lt, Option, Some, None}
 use Rattle.words.specs.TwosComplement.{signed, word_of}
-use Rattle.words.specs.declared.integer.Quotient.{Quotient}
-use Rattle.words.specs.declared.integer.Quotient.TheVariants.{Word, ZeroDivisor}
 
 abbrev pub number : ℕ → ℤ
 number a = signed 64 a
@@ -29,8 +27,8 @@ unfoldable pub integer_quotient : ℕ → ℕ → ℕ
 integer_quotient a b = word (int_div (number a) (number b))
 
 -- 01, Turned down: "15 INTEGER zero divisor".
-unfoldable pub integer_divide : ℕ → ℕ → Quotient
-integer_divide a b = cond (b == 0) ZeroDivisor (Word (integer_quotient a b))
+unfoldable pub integer_divide : ℕ → ℕ → Option ℕ
+integer_divide a b = cond (b == 0) None (Some (integer_quotient a b))
 
 -- 01, Turned down, Running program: "14 index at or past length, or negative", "16 negative shift count".
 unfoldable pub integer_is_negative : ℕ → Bool

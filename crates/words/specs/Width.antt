@@ -1,15 +1,13 @@
 -- The operators on the bits of words of w bits.
-use Rattle.std.specs.Prelude.{ℕ, ◌-◌, ◌*◌, ◌/◌, ◌%◌, ◌^◌, cond, bit_and, bit_or, bit_xor, nat_lt}
+use Rattle.std.specs.Prelude.{ℕ, ◌-◌, ◌*◌, ◌/◌, ◌%◌, ◌^◌, cond, bit_and, bit_or, bit_xor, nat_lt, Option, Some, None}
 use Rattle.std.specs.Int.Signed.{shr_z}
 use Rattle.words.specs.TwosComplement.{signed, word_of}
 use Rattle.words.specs.Integer.{integer_is_negative}
-use Rattle.words.specs.declared.width.Shifted.{Shifted}
-use Rattle.words.specs.declared.width.Shifted.TheVariants.{Word, NegativeCount}
 
 -- The answer of a shift: the count is a whole word in two's complement. 01, Machine: "Shift counts use the whole value"; Turned down:
 -- "16 negative shift count".
-unfoldable pub shifted : (ℕ → ℕ) → ℕ → Shifted
-shifted shift count = cond (integer_is_negative count) NegativeCount (Word (shift count))
+unfoldable pub shifted : (ℕ → ℕ) → ℕ → Option ℕ
+shifted shift count = cond (integer_is_negative count) None (Some (shift count))
 
 module _ (w : ℕ) where
   -- all bits set
@@ -49,11 +47,11 @@ module _ (w : ℕ) where
   unfoldable pub ashr_at : ℕ → ℕ → ℕ
   ashr_at v n = cond (nat_lt n w) (word_of w (shr_z (signed w (low_bits v)) (2 ^ n))) (top_bits v)
 
-  unfoldable pub shift_left : ℕ → ℕ → Shifted
+  unfoldable pub shift_left : ℕ → ℕ → Option ℕ
   shift_left v count = shifted (shl_at v) count
 
-  unfoldable pub shift_right : ℕ → ℕ → Shifted
+  unfoldable pub shift_right : ℕ → ℕ → Option ℕ
   shift_right v count = shifted (shr_at v) count
 
-  unfoldable pub shift_right_arithmetic : ℕ → ℕ → Shifted
+  unfoldable pub shift_right_arithmetic : ℕ → ℕ → Option ℕ
   shift_right_arithmetic v count = shifted (ashr_at v) count

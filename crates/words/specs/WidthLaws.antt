@@ -1,6 +1,6 @@
 -- Laws of words for every width w. 01, The laboratory's note: "Width facts are shown for general width, then used at 1, 8 and 64"; that use
 -- is in `Fits.antt`. Assumes nothing.
-use Rattle.std.specs.Prelude.{◌≡◌, ℕ, zero, suc, ◌-◌, ◌*◌, ◌%◌, ◌^◌, ◌<◌, ◌≤◌, Bool, true, false, cond, ◌⊎◌, ℤ, pos, negsuc, ◌-ℤ◌, ◌==◌, nat_lt}
+use Rattle.std.specs.Prelude.{◌≡◌, ℕ, zero, suc, ◌-◌, ◌*◌, ◌%◌, ◌^◌, ◌<◌, ◌≤◌, Bool, true, false, cond, ◌⊎◌, ℤ, pos, negsuc, ◌-ℤ◌, ◌==◌, nat_lt, Some, None}
 use Rattle.std.proofs.Math.Path.{refl}
 use Rattle.std.proofs.Common.{ap, ◌∙◌, div-le_self, lt_of_le_of_lt, zero-lt-suc, zero-add, lt-ltb, le-ltb, lit≤}
 use Rattle.std.proofs.Math.Logic.{inl, inr}
@@ -13,7 +13,6 @@ use Rattle.words.specs.Kind.{width_of}
 use Rattle.words.specs.TwosComplement.{signed, word_of}
 use Rattle.words.specs.Integer.{integer_is_negative}
 use Rattle.words.specs.Width.{ones, low_bits, not_at, and_at, ior_at, xor_at, shl_at, shr_at, ashr_at, top_bits, shifted}
-use Rattle.words.specs.declared.width.Shifted.TheVariants.{Word, NegativeCount}
 
 -- no kind is wider than a u64
 pub width_at_most : (kind : ℕ) → width_of kind ≤ 64
@@ -152,10 +151,10 @@ signed_word k (negsuc n) h =
 
 -- ---- the answer of a shift
 
-pub shifted-word : (shift : ℕ → ℕ) (count r : ℕ) → shifted shift count ≡ Word r → shift count ≡ r
+pub shifted-word : (shift : ℕ → ℕ) (count r : ℕ) → shifted shift count ≡ Some r → shift count ≡ r
 unfolding shifted
 shifted-word shift count r e = at (integer_is_negative count) e
   where
-    at : (t : Bool) → cond t NegativeCount (Word (shift count)) ≡ Word r → shift count ≡ r
+    at : (t : Bool) → cond t None (Some (shift count)) ≡ Some r → shift count ≡ r
     at true q = cc
     at false q = cc

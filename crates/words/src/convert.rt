@@ -17,12 +17,6 @@ const WHOLE_EXPONENT: u64 = 1075;
 
 const LAST_EXPONENT: u64 = 1086;
 
-#[derive(Drop)]
-pub enum Converted {
-    Word(u64),
-    Outside,
-}
-
 pub fn integer_to_real(a: u64) -> u64
     ensures { result ≡ integer_to_real a }
 {
@@ -45,22 +39,22 @@ fn whole_part(exponent: u64, fraction: u64) -> u64
 }
 
 // Past the last exponent are sizes from 2 ^ 64 on, infinities and NaN.
-pub fn real_to_integer(a: u64) -> Converted
+pub fn real_to_integer(a: u64) -> Option<u64>
     ensures { result ≡ real_to_integer a }
 {
     let exponent = a % TOP / LEADING;
     if exponent > LAST_EXPONENT {
-        return Converted::Outside;
+        return None;
     }
     let size = whole_part(exponent, a % LEADING);
     if a >= TOP {
         if size <= TOP {
-            return Converted::Word(size.wrapping_neg());
+            return Some(size.wrapping_neg());
         }
-        return Converted::Outside;
+        return None;
     }
     if size < TOP {
-        return Converted::Word(size);
+        return Some(size);
     }
-    Converted::Outside
+    None
 }

@@ -29,21 +29,15 @@ pub fn multiply(a: u64, b: u64) -> u64
     a.wrapping_mul(b)
 }
 
-#[derive(Drop)]
-pub enum Quotient {
-    Word(u64),
-    ZeroDivisor,
-}
-
 // -2 ^ 63 by -1 gives 2 ^ 63, the word of -2 ^ 63.
-pub fn divide(a: u64, b: u64) -> Quotient
+pub fn divide(a: u64, b: u64) -> Option<u64>
     ensures { result ≡ integer_divide a b }
 {
     if b == 0 {
-        return Quotient::ZeroDivisor;
+        return None;
     }
     let quotient = a.cast_signed().wrapping_div(b.cast_signed());
-    Quotient::Word(quotient.cast_unsigned())
+    Some(quotient.cast_unsigned())
 }
 
 pub fn is_negative(a: u64) -> bool

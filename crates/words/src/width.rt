@@ -83,35 +83,29 @@ fn ashr_at(kind: u64, v: u64, n: u64) -> u64
     shr_at(kind, low, n)
 }
 
-#[derive(Drop)]
-pub enum Shifted {
-    Word(u64),
-    NegativeCount,
-}
-
 // The shifted word, unless the count is negative.
-fn answer(count: u64, word: u64) -> Shifted
+fn answer(count: u64, word: u64) -> Option<u64>
     ensures { result ≡ shifted (λ _. word) count }
 {
     if integer::is_negative(count) {
-        return Shifted::NegativeCount;
+        return None;
     }
-    Shifted::Word(word)
+    Some(word)
 }
 
-pub fn shl(kind: u64, v: u64, count: u64) -> Shifted
+pub fn shl(kind: u64, v: u64, count: u64) -> Option<u64>
     ensures { result ≡ shift_left (width_of kind) v count }
 {
     answer(count, shl_at(kind, v, count))
 }
 
-pub fn shr(kind: u64, v: u64, count: u64) -> Shifted
+pub fn shr(kind: u64, v: u64, count: u64) -> Option<u64>
     ensures { result ≡ shift_right (width_of kind) v count }
 {
     answer(count, shr_at(kind, v, count))
 }
 
-pub fn ashr(kind: u64, v: u64, count: u64) -> Shifted
+pub fn ashr(kind: u64, v: u64, count: u64) -> Option<u64>
     ensures { result ≡ shift_right_arithmetic (width_of kind) v count }
 {
     answer(count, ashr_at(kind, v, count))
