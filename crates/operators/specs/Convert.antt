@@ -1,4 +1,5 @@
 -- 02, P5, CONVERT: which kinds have a rule, its result, and which declared kinds open passes. The quoted sentences are 02's.
+use Rattle.std.specs.Option.{ok_or}
 use Rattle.std.specs.Prelude.{ℕ, Bool, false, not, cond, ◌||◌, ◌&&◌, List, eqb, Option, Some, None, Ok, Err}
 use Rattle.words.specs.Kind.{integer, real}
 use Rattle.words.specs.Convert.{integer_to_real, real_to_integer}
@@ -22,8 +23,7 @@ converted_kind source = cond (eqb source real) integer real
 
 -- "with 23 .. a NaN, an infinity or a value outside -2^63 to 2^63-1 after the fraction is dropped"
 abbrev pub converted_outcome : Option ℕ → Outcome ℕ
-converted_outcome (Some w) = Ok w
-converted_outcome None = Err outside_integer
+converted_outcome c = ok_or c outside_integer
 
 unfoldable pub convert_result : ℕ → ℕ → Outcome ℕ
 convert_result source word = cond (eqb source real) (converted_outcome (real_to_integer word)) (Ok (integer_to_real word))

@@ -1,4 +1,5 @@
 -- Which operand kinds have a rule, and the result of each operator. The loader lets no other operator pass: the rest of each definition by operators, 0 or false, is never reached.
+use Rattle.std.specs.Option.{ok_or}
 use Rattle.std.specs.Prelude.{ℕ, Bool, false, cond, ◌||◌, ◌&&◌, List, [], ◌∷◌, eqb, ltb, Option, Some, None, Ok, Err}
 use Rattle.words.specs.Kind.{integer, real, integer_literal, real_literal, width_of}
 use Rattle.words.specs.Integer as Z
@@ -23,8 +24,7 @@ arithmetic_kinds d s = (eqb d integer || eqb d real) && eqb d (own_kind s)
 
 -- "15 INTEGER zero divisor"
 abbrev pub quotient_outcome : Option ℕ → Outcome ℕ
-quotient_outcome (Some w) = Ok w
-quotient_outcome None = Err zero_divisor
+quotient_outcome q = ok_or q zero_divisor
 
 abbrev pub integer_results : ℕ → ℕ → List (ℕ × Outcome ℕ)
 integer_results a b =
@@ -97,8 +97,7 @@ logic_kinds d s = ltb d real && (ltb s real || eqb s integer_literal)
 
 -- "16 negative shift count"
 abbrev pub shifted_outcome : Option ℕ → Outcome ℕ
-shifted_outcome (Some w) = Ok w
-shifted_outcome None = Err negative_shift_count
+shifted_outcome s = ok_or s negative_shift_count
 
 -- w is "the destination's width". BIT and OCTET counts are never negative.
 abbrev pub logic_results : ℕ → ℕ → ℕ → List (ℕ × Outcome ℕ)

@@ -1,9 +1,10 @@
 // CONVERT: which kinds have a rule, its result; and refusal 22, of the declared kinds.
 ghost use Rattle.std.specs.Prelude.{◌≡◌};
-ghost use Rattle.operators.specs.Convert.{convert_kinds, converted_kind, converted_outcome, convert_result, convertible, conversion_fits, conversions_fit};
+ghost use Rattle.operators.specs.Convert.{convert_kinds, converted_kind, convert_result, convertible, conversion_fits, conversions_fit};
 
 use tables::family;
 use tables::lookup::lookup_region;
+use tables::refusal::Refusal;
 use tables::rows::{INSTRUCTION_WIDTH, Instruction, instruction_at, region_at};
 use words::convert::{integer_to_real, real_to_integer};
 use words::kind;
@@ -24,13 +25,13 @@ pub fn converted_kind(source: u64) -> u64
 }
 
 #[tactic(auto, unfolding(crate::specs::Convert::convert_result))]
-pub fn convert_result(source: u64, word: u64) -> Option<u64>
-    ensures { converted_outcome result ≡ convert_result source word }
+pub fn convert_result(source: u64, word: u64) -> Result<u64, Refusal>
+    ensures { result ≡ convert_result source word }
 {
     if source == kind::REAL {
-        return real_to_integer(word);
+        return real_to_integer(word).ok_or(Refusal::OutsideInteger);
     }
-    Some(integer_to_real(word))
+    Ok(integer_to_real(word))
 }
 
 fn kinds_convert(destination: u64, source: u64) -> bool

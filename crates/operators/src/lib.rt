@@ -4,10 +4,11 @@
 pub mod convert;
 
 ghost use Rattle.std.specs.Prelude.{◌≡◌};
-ghost use Rattle.operators.specs.Operators.{own_kind, arithmetic_kinds, quotient_outcome, integer_result, real_result, arithmetic_result, comparison_kinds, integer_test, real_test, comparison_test, comparison_result, logic_kinds, shifted_outcome, logic_result, unary_kinds, negated, unary_result};
+ghost use Rattle.operators.specs.Operators.{own_kind, arithmetic_kinds, integer_result, real_result, arithmetic_result, comparison_kinds, integer_test, real_test, comparison_test, comparison_result, logic_kinds, logic_result, unary_kinds, negated, unary_result};
 
 use reals::real;
 use tables::operator;
+use tables::refusal::Refusal;
 use words::{integer, kind, width};
 
 // A literal counts as its own kind.
@@ -29,15 +30,15 @@ pub fn arithmetic_kinds(d: u64, s: u64) -> bool
 
 // INTEGER and REAL have a match each: a trait of both would state each of their nine functions twice, as a method with a ghost member and at two impls.
 #[tactic(auto, unfolding(crate::specs::Operators::integer_result, tables::specs::Cases::case_of))]
-fn integer_result(operator: u64, a: u64, b: u64) -> Option<u64>
-    ensures { quotient_outcome result ≡ integer_result operator a b }
+fn integer_result(operator: u64, a: u64, b: u64) -> Result<u64, Refusal>
+    ensures { result ≡ integer_result operator a b }
 {
     match operator {
-        operator::ADD => Some(integer::add(a, b)),
-        operator::SUBTRACT => Some(integer::subtract(a, b)),
-        operator::DIVIDE => integer::divide(a, b),
-        operator::MULTIPLY => Some(integer::multiply(a, b)),
-        _ => Some(0),
+        operator::ADD => Ok(integer::add(a, b)),
+        operator::SUBTRACT => Ok(integer::subtract(a, b)),
+        operator::DIVIDE => integer::divide(a, b).ok_or(Refusal::ZeroDivisor),
+        operator::MULTIPLY => Ok(integer::multiply(a, b)),
+        _ => Ok(0),
     }
 }
 
@@ -55,11 +56,11 @@ fn real_result(operator: u64, a: u64, b: u64) -> u64
 }
 
 #[tactic(auto, unfolding(crate::specs::Operators::arithmetic_result))]
-pub fn arithmetic_result(operator: u64, kind: u64, a: u64, b: u64) -> Option<u64>
-    ensures { quotient_outcome result ≡ arithmetic_result operator kind a b }
+pub fn arithmetic_result(operator: u64, kind: u64, a: u64, b: u64) -> Result<u64, Refusal>
+    ensures { result ≡ arithmetic_result operator kind a b }
 {
     if kind == kind::REAL {
-        return Some(real_result(operator, a, b));
+        return Ok(real_result(operator, a, b));
     }
     integer_result(operator, a, b)
 }
@@ -129,17 +130,17 @@ pub fn logic_kinds(d: u64, s: u64) -> bool
 }
 
 #[tactic(auto, unfolding(crate::specs::Operators::logic_result, tables::specs::Cases::case_of))]
-pub fn logic_result(operator: u64, kind: u64, v: u64, s: u64) -> Option<u64>
-    ensures { shifted_outcome result ≡ logic_result operator kind v s }
+pub fn logic_result(operator: u64, kind: u64, v: u64, s: u64) -> Result<u64, Refusal>
+    ensures { result ≡ logic_result operator kind v s }
 {
     match operator {
-        operator::AND => Some(width::and(kind, v, s)),
-        operator::IOR => Some(width::ior(kind, v, s)),
-        operator::XOR => Some(width::xor(kind, v, s)),
-        operator::SHL => width::shl(kind, v, s),
-        operator::SHR => width::shr(kind, v, s),
-        operator::ASHR => width::ashr(kind, v, s),
-        _ => Some(0),
+        operator::AND => Ok(width::and(kind, v, s)),
+        operator::IOR => Ok(width::ior(kind, v, s)),
+        operator::XOR => Ok(width::xor(kind, v, s)),
+        operator::SHL => width::shl(kind, v, s).ok_or(Refusal::NegativeShiftCount),
+        operator::SHR => width::shr(kind, v, s).ok_or(Refusal::NegativeShiftCount),
+        operator::ASHR => width::ashr(kind, v, s).ok_or(Refusal::NegativeShiftCount),
+        _ => Ok(0),
     }
 }
 
