@@ -1,4 +1,6 @@
 -- What a judged reply says: each of its rows hits a cell that is there, and gives one write. Assumes nothing.
+use Rattle.call_argument.specs.declared.error.CallArgumentError.{CallArgumentError}
+use Rattle.std.proofs.Common.{Result, Ok, Err}
 use Prim.Native.Nat.{ℕ, zero, suc, ◌+◌, ◌<◌}
 use mathlib.Core.Bool.{Bool, true, false, not, ◌&&◌}
 use mathlib.Core.List.{List}
@@ -9,19 +11,15 @@ use lib.ListN.{length}
 use lib.Dec.{eqb, ltb}
 use Rattle.words.specs.Kind.{fits_kind}
 use Rattle.tables.specs.First.{every}
-use Rattle.tables.specs.Outcome.{Outcome, ok, refuse, ◌>>=◌, ◌>>◌, need}
+use Rattle.tables.specs.Outcome.{Outcome, ◌>>=◌, ◌>>◌, need}
 use Rattle.tables.specs.Rows.{region_length}
 use Rattle.operands.specs.Reach.{Laid}
 use Rattle.tables.specs.Lookup.{lookup_region}
-use Rattle.tables.specs.declared.lookup.Found.{Found}
-use Rattle.tables.specs.declared.lookup.Found.TheVariants.{At, Nothing}
 use Rattle.tables.specs.declared.rows.Instruction.{Instruction}
 use Rattle.tables.proofs.FirstLaws.{every-row}
 use Rattle.tables.proofs.Passed.{both, passed}
 use Rattle.extern_call.specs.Call.{resolution_at, resolves_call, CallRanges, Counted, Paired}
 use Rattle.extern_call.specs.declared.call.ExternCall.{ExternCall}
-use Rattle.extern_call.specs.declared.call.CallResolution.{CallResolution}
-use Rattle.extern_call.specs.declared.call.CallResolution.TheVariants as C
 use Rattle.call_argument.specs.declared.resolved.ResolvedCallArgument.{ResolvedCallArgument}
 use Rattle.call_argument.specs.declared.resolved.ResolvedCallArgument.TheVariants.{Vector, MemoryReference, Immediate}
 use Rattle.extern_call.proofs.CallLaws.{counted-paired}
@@ -40,11 +38,11 @@ pub record Judged (regions externs parameters arguments : List ℕ) (x : Instruc
   pub scalars : scalars_fit regions parameters arguments call ≡ true
   pub fits : reply_fits regions parameters arguments call reply ≡ true
 
-given : {a b : ExternCall} (t : Bool) (n : ℕ) → (need t n >> ok a) ≡ ok b → (t ≡ true) × (a ≡ b)
+given : {a b : ExternCall} (t : Bool) (n : ℕ) → (need t n >> Ok a) ≡ Ok b → (t ≡ true) × (a ≡ b)
 given t n e = let (p, q) = passed t n _ _ e in (p, (cc))
 
 module _ (regions externs parameters arguments : List ℕ) (x : Instruction) (call : ExternCall) where
-  pub ready_ok : call_ready regions externs parameters arguments x ≡ ok call
+  pub ready_ok : call_ready regions externs parameters arguments x ≡ Ok call
       → Resolvable regions externs parameters arguments x call × (scalars_fit regions parameters arguments call ≡ true)
   unfolding call_ready
   ready_ok e =
@@ -52,7 +50,7 @@ module _ (regions externs parameters arguments : List ℕ) (x : Instruction) (ca
       let (s, q) = given (scalars_fit regions parameters arguments b.value) _ b.rest in
       (resolves_ok regions externs parameters arguments x call (rw q at b.given), rw q at s)
 
-  pub judged_ok : (reply : List ℕ) → call_judged regions externs parameters arguments x reply ≡ ok call → Judged regions externs parameters arguments x reply call
+  pub judged_ok : (reply : List ℕ) → call_judged regions externs parameters arguments x reply ≡ Ok call → Judged regions externs parameters arguments x reply call
   unfolding call_judged
   judged_ok reply e =
       let b = bound (call_ready regions externs parameters arguments x) _ call e in
@@ -82,24 +80,24 @@ offset-below mutable length kind y e = ltb-true y.offset length (both (ltb y.off
 module _ (regions parameters arguments : List ℕ) (call : ExternCall) where
   -- the index of a scalar reference is below its region's length
   pub scalar_below : (i : ℕ) → scalars_fit regions parameters arguments call ≡ true → i < call.argument_count
-      → (a : CallResolution) → resolution_at regions parameters arguments call i ≡ a → of_resolved (scalar_fits regions) true a ≡ true
+      → (a : Result ResolvedCallArgument CallArgumentError) → resolution_at regions parameters arguments call i ≡ a → of_resolved (scalar_fits regions) true a ≡ true
   unfolding scalars_fit
   scalar_below i s h a e =
       rw (← e) (every-row (λ k. of_resolved (scalar_fits regions) true (resolution_at regions parameters arguments call k)) call.argument_count s i h)
 
-  cell-within : (i : ℕ) (y : Reply) (r : CallResolution) → resolution_at regions parameters arguments call i ≡ r
+  cell-within : (i : ℕ) (y : Reply) (r : Result ResolvedCallArgument CallArgumentError) → resolution_at regions parameters arguments call i ≡ r
       → of_resolved (scalar_fits regions) true r ≡ true → of_resolved (hits y) false r ≡ true → HitWithin regions y.offset r
-  cell-within i y (C.Resolved (Vector name v mutable)) e s f =
+  cell-within i y (Ok (Vector name v mutable)) e s f =
       let d = (resolved_facts regions parameters arguments call i (Vector name v mutable) e).declares in
       let l : y.offset < v.length = offset-below mutable v.length v.kind y f in
       let q : region_length regions d.region ≡ v.length = d.of_length in
       let g : y.offset < region_length regions d.region = omega arith in
       rw d.named g
-  cell-within i y (C.Resolved (MemoryReference name index kind mutable)) e s f =
+  cell-within i y (Ok (MemoryReference name index kind mutable)) e s f =
       let d = (resolved_facts regions parameters arguments call i (MemoryReference name index kind mutable) e).declares in
       rw d.named (index_below regions d.region index (rw d.named at s))
-  cell-within i y (C.Resolved (Immediate real imaginary kind)) e s f = tt
-  cell-within i y (C.Failed error) e s f = tt
+  cell-within i y (Ok (Immediate real imaginary kind)) e s f = tt
+  cell-within i y (Err error) e s f = tt
 
   pub replied_argument : (reply : List ℕ) (k : ℕ) → reply_row_fits regions parameters arguments call reply k ≡ true → (reply_at reply k).argument < call.argument_count
   unfolding reply_row_fits

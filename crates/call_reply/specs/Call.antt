@@ -1,17 +1,14 @@
 -- A CALL. 01, Order: "a call: 6, 7, 8 (number only), 14 over scalar references, 17", then one write for each row of the reply, in order.
-use Rattle.std.specs.Prelude.{ℕ, zero, suc, ◌+◌, ◌*◌, ◌/◌, ◌%◌, Bool, true, false, not, ◌&&◌, List, [], ◌∷◌, get_or, length, eqb, ltb, leb}
+use Rattle.call_argument.specs.declared.error.CallArgumentError.{CallArgumentError}
+use Rattle.std.specs.Prelude.{ℕ, zero, suc, ◌+◌, ◌*◌, ◌/◌, ◌%◌, Bool, true, false, not, ◌&&◌, List, [], ◌∷◌, get_or, length, eqb, ltb, leb, Option, Some, None, Result, Ok, Err}
 use Rattle.words.specs.Kind.{fits_kind}
 use Rattle.tables.specs.Refusal.{index_past_length, unfit_reply}
-use Rattle.tables.specs.Outcome.{Outcome, ok, refuse, ◌>>=◌, ◌>>◌, need}
+use Rattle.tables.specs.Outcome.{Outcome, ◌>>=◌, ◌>>◌, need}
 use Rattle.tables.specs.First.{every}
 use Rattle.tables.specs.Lookup.{lookup_region}
-use Rattle.tables.specs.declared.lookup.Found.{Found}
-use Rattle.tables.specs.declared.lookup.Found.TheVariants as F
 use Rattle.tables.specs.declared.rows.Instruction.{Instruction}
 use Rattle.extern_call.specs.Call.{resolution_at, resolves_call}
 use Rattle.extern_call.specs.declared.call.ExternCall.{ExternCall}
-use Rattle.extern_call.specs.declared.call.CallResolution.{CallResolution}
-use Rattle.extern_call.specs.declared.call.CallResolution.TheVariants.{Resolved, Failed}
 use Rattle.call_argument.specs.declared.resolved.ResolvedCallArgument.{ResolvedCallArgument}
 use Rattle.call_argument.specs.declared.resolved.ResolvedCallArgument.TheVariants.{Vector, MemoryReference, Immediate}
 use Rattle.operands.specs.Address.{address_of, index_fits}
@@ -47,9 +44,9 @@ reply_length_fits reply = eqb (length reply % reply_width) 0 && leb (reply_rows 
 -- ---- resolved arguments
 
 -- 14: the index of a scalar reference in its region
-abbrev pub index_found : List ℕ → ℕ → Found → Bool
-index_found regions index (F.At r) = index_fits regions r index
-index_found regions index F.Nothing = false
+abbrev pub index_found : List ℕ → ℕ → Option ℕ → Bool
+index_found regions index (Some r) = index_fits regions r index
+index_found regions index None = false
 
 abbrev pub scalar_fits : List ℕ → ResolvedCallArgument → Bool
 scalar_fits regions (Vector name v mutable) = true
@@ -66,9 +63,9 @@ hits y (MemoryReference name index kind mutable) = fits_row mutable 1 kind y
 hits y (Immediate real imaginary kind) = false
 
 -- the cell of a resolved argument at an offset; an immediate has none
-abbrev pub cell_found : List ℕ → ℕ → Found → ℕ
-cell_found regions i (F.At r) = address_of regions r i
-cell_found regions i F.Nothing = 0
+abbrev pub cell_found : List ℕ → ℕ → Option ℕ → ℕ
+cell_found regions i (Some r) = address_of regions r i
+cell_found regions i None = 0
 
 abbrev pub cell_hit : List ℕ → ℕ → ResolvedCallArgument → ℕ
 cell_hit regions offset (Vector name v mutable) = cell_found regions offset (lookup_region regions name)
@@ -77,9 +74,9 @@ cell_hit regions offset (Immediate real imaginary kind) = 0
 
 -- ---- a CALL with its signature, all of whose arguments resolve
 
-abbrev pub of_resolved : {A : Type 0} → (ResolvedCallArgument → A) → A → CallResolution → A
-of_resolved f other (Resolved a) = f a
-of_resolved f other (Failed error) = other
+abbrev pub of_resolved : {A : Type 0} → (ResolvedCallArgument → A) → A → Result ResolvedCallArgument CallArgumentError → A
+of_resolved f other (Ok a) = f a
+of_resolved f other (Err error) = other
 
 module _ (regions parameters arguments : List ℕ) (call : ExternCall) where
   -- "14 over scalar references", immutable ones and the return too
@@ -118,16 +115,16 @@ module _ (regions externs parameters arguments : List ℕ) (x : Instruction) whe
   call_ready = do
     call ← resolves_call regions externs parameters arguments x
     need (scalars_fit regions parameters arguments call) index_past_length
-    ok call
+    Ok call
 
   -- "17": the CALL whose reply fits
   unfoldable pub call_judged : List ℕ → Outcome ExternCall
   call_judged reply = do
     call ← call_ready
     need (reply_fits regions parameters arguments call reply) unfit_reply
-    ok call
+    Ok call
 
   unfoldable pub call_outcome : List ℕ → Outcome (List Write)
   call_outcome reply = do
     call ← call_judged reply
-    ok (reply_writes regions parameters arguments call reply)
+    Ok (reply_writes regions parameters arguments call reply)

@@ -1,22 +1,19 @@
 -- What the functions ask for, index safety alone: an argument that is looked at and the cell that it has at an offset are there.
-use Rattle.std.specs.Prelude.{ℕ, ◌<◌, true, List, ◌≡◌}
+use Rattle.call_argument.specs.declared.error.CallArgumentError.{CallArgumentError}
+use Rattle.std.specs.Prelude.{ℕ, ◌<◌, true, List, ◌≡◌, Option, Some, None, Result, Ok, Err}
 use Rattle.tables.specs.Rows.{region_length}
 use Rattle.tables.specs.Lookup.{lookup_region}
-use Rattle.tables.specs.declared.lookup.Found.{Found}
-use Rattle.tables.specs.declared.lookup.Found.TheVariants as F
 use Rattle.extern_call.specs.Call.{resolution_at, Counted, Paired}
 use Rattle.extern_call.specs.declared.call.ExternCall.{ExternCall}
-use Rattle.extern_call.specs.declared.call.CallResolution.{CallResolution}
-use Rattle.extern_call.specs.declared.call.CallResolution.TheVariants.{Resolved, Failed}
 use Rattle.call_argument.specs.declared.resolved.ResolvedCallArgument.{ResolvedCallArgument}
 use Rattle.call_argument.specs.declared.resolved.ResolvedCallArgument.TheVariants.{Vector, MemoryReference, Immediate}
 use Rattle.operands.specs.Reach.{Laid}
 use Rattle.call_reply.specs.Call.{reply_rows, scalars_fit, reply_row_fits}
 
 -- an index of a region that was found
-abbrev pub FoundWithin : List ℕ → ℕ → Found → Type 0
-FoundWithin regions i (F.At r) = i < region_length regions r
-FoundWithin regions i F.Nothing = Unit {0}
+abbrev pub FoundWithin : List ℕ → ℕ → Option ℕ → Type 0
+FoundWithin regions i (Some r) = i < region_length regions r
+FoundWithin regions i None = Unit {0}
 
 -- the cell of a resolved argument at an offset
 abbrev pub CellWithin : List ℕ → ℕ → ResolvedCallArgument → Type 0
@@ -24,9 +21,9 @@ CellWithin regions offset (Vector name v mutable) = FoundWithin regions offset (
 CellWithin regions offset (MemoryReference name index kind mutable) = FoundWithin regions index (lookup_region regions name)
 CellWithin regions offset (Immediate real imaginary kind) = Unit {0}
 
-abbrev pub HitWithin : List ℕ → ℕ → CallResolution → Type 0
-HitWithin regions offset (Resolved a) = CellWithin regions offset a
-HitWithin regions offset (Failed error) = Unit {0}
+abbrev pub HitWithin : List ℕ → ℕ → Result ResolvedCallArgument CallArgumentError → Type 0
+HitWithin regions offset (Ok a) = CellWithin regions offset a
+HitWithin regions offset (Err error) = Unit {0}
 
 -- argument i and its cell
 pub record Hit (regions parameters arguments : List ℕ) (call : ExternCall) (i offset : ℕ) : Type 0 where

@@ -8,17 +8,17 @@ ghost use Rattle.call_reply.specs.Reach.{FoundWithin, CellWithin, Hit, Judging, 
 
 use crate::reply::{REPLY_WIDTH, Reply, hits_argument, reply_at, reply_length_fits};
 use call_argument::resolved::ResolvedCallArgument;
-use extern_call::call::{CallAnswer, CallResolution, ExternCall, resolve_at, resolves};
+use extern_call::call::{ExternCall, resolve_at, resolves};
 use journal::cells::Write;
 use operands::address::{index_fits, region_origin};
-use tables::lookup::{Found, lookup_region};
-use tables::refusal::{INDEX_PAST_LENGTH, UNFIT_REPLY};
+use tables::lookup::lookup_region;
+use tables::refusal::Refusal;
 use tables::rows::Instruction;
 
 fn named_index_fits(regions: &[u64], name: u64, index: u64) -> bool
     ensures { result ≡ index_found regions.now index (lookup_region regions.now name) }
 {
-    let Found::At(r) = lookup_region(regions, name) else {
+    let Some(r) = lookup_region(regions, name) else {
         return false;
     };
     index_fits(regions, r, index)
@@ -60,8 +60,8 @@ fn scalar_fits_at(
 {
     let resolution = resolve_at(regions, parameters, arguments, call, i);
     match resolution {
-        CallResolution::Resolved(a) => scalar_fits(regions, a),
-        CallResolution::Failed(_) => true,
+        Ok(a) => scalar_fits(regions, a),
+        Err(_) => true,
     }
 }
 
@@ -95,8 +95,8 @@ fn hits_at(
 {
     let resolution = resolve_at(regions, parameters, arguments, call, i);
     match resolution {
-        CallResolution::Resolved(a) => hits_argument(y, a),
-        CallResolution::Failed(_) => false,
+        Ok(a) => hits_argument(y, a),
+        Err(_) => false,
     }
 }
 
@@ -151,19 +151,19 @@ fn ready_call(
     parameters: &[u64],
     arguments: &[u64],
     x: Instruction,
-) -> CallAnswer
+) -> Result<ExternCall, Refusal>
     requires { CallRanges externs.now parameters.now arguments.now x }
     ensures { call_answer result ≡ call_ready regions.now externs.now parameters.now arguments.now x }
 {
     let answer = resolves(regions, externs, parameters, arguments, x);
     match answer {
-        CallAnswer::Resolves(call) => {
+        Ok(call) => {
             if !scalars_fit(regions, parameters, arguments, call) {
-                return CallAnswer::Refused(INDEX_PAST_LENGTH);
+                return Err(Refusal::IndexPastLength);
             }
-            CallAnswer::Resolves(call)
+            Ok(call)
         }
-        CallAnswer::Refused(number) => CallAnswer::Refused(number),
+        Err(number) => Err(number),
     }
 }
 
@@ -175,19 +175,19 @@ pub fn judge_call(
     arguments: &[u64],
     x: Instruction,
     reply: &[u64],
-) -> CallAnswer
+) -> Result<ExternCall, Refusal>
     requires { CallRanges externs.now parameters.now arguments.now x }
     ensures { call_answer result ≡ call_judged regions.now externs.now parameters.now arguments.now x reply.now }
 {
     let answer = ready_call(regions, externs, parameters, arguments, x);
     match answer {
-        CallAnswer::Resolves(call) => {
+        Ok(call) => {
             if !reply_fits(regions, parameters, arguments, call, reply) {
-                return CallAnswer::Refused(UNFIT_REPLY);
+                return Err(Refusal::UnfitReply);
             }
-            CallAnswer::Resolves(call)
+            Ok(call)
         }
-        CallAnswer::Refused(number) => CallAnswer::Refused(number),
+        Err(number) => Err(number),
     }
 }
 
@@ -195,7 +195,7 @@ fn named_cell(regions: &[u64], name: u64, i: u64) -> usize
     requires { Laid regions.now × FoundWithin regions.now i (lookup_region regions.now name) }
     ensures { result ≡ cell_found regions.now i (lookup_region regions.now name) }
 {
-    let Found::At(r) = lookup_region(regions, name) else {
+    let Some(r) = lookup_region(regions, name) else {
         return 0;
     };
     region_origin(regions, r) + i as usize
@@ -239,8 +239,8 @@ fn cell_at(
 {
     let resolution = resolve_at(regions, parameters, arguments, call, i);
     match resolution {
-        CallResolution::Resolved(a) => argument_cell(regions, a, offset),
-        CallResolution::Failed(_) => 0,
+        Ok(a) => argument_cell(regions, a, offset),
+        Err(_) => 0,
     }
 }
 

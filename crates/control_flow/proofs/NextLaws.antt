@@ -7,6 +7,7 @@ use mathlib.Core.Path.{◌≡◌, refl, sym, ap, ap₂, ◌∙◌}
 use native.Mathlib.Omega.{arith}
 use lib.Dec.{eqb}
 use lib.ListN.{get_or}
+use Rattle.tables.specs.declared.refusal.Refusal.{Refusal}
 use Rattle.tables.specs.Cases.{case_of}
 use Rattle.tables.specs.Family as family
 use Rattle.tables.specs.Lookup.{lookup_region}
@@ -29,7 +30,7 @@ module _ (regions cells : List ℕ) (x : Instruction) where
   unfolding condition_cell ◌>>=◌
   word-undeclared e = rw e
 
-  pub word_past : {r n : ℕ} → lookup_region regions x.first_name ≡ Some r → indexed_of regions r x.first_index ≡ Err n → 0 ≡ condition_word regions cells x
+  pub word_past : {r : ℕ} {n : Refusal} → lookup_region regions x.first_name ≡ Some r → indexed_of regions r x.first_index ≡ Err n → 0 ≡ condition_word regions cells x
   unfolding condition_cell ◌>>=◌
   word_past e h = rw (e, h)
 

@@ -1,4 +1,5 @@
 -- Which rows a CALL's arguments and their parameters are. Assumes nothing.
+use Rattle.std.proofs.Common.{Option, Some, None, Ok}
 use Prim.Native.Nat.{ℕ, ◌+◌, ◌-◌, ◌<◌}
 use mathlib.Core.Path.{◌≡◌, refl}
 use mathlib.Core.Bool.{Bool, true, false, cond}
@@ -6,12 +7,10 @@ use mathlib.Core.List.{List}
 use native.Mathlib.Omega.{arith}
 use borrow.Author.Tests.{eqb-false}
 use lib.Dec.{eqb}
-use Rattle.tables.specs.Outcome.{ok, ◌>>=◌}
+use Rattle.tables.specs.Outcome.{◌>>=◌}
 use Rattle.tables.specs.Family as family
 use Rattle.tables.specs.Rows.{instruction_rows, extern_at, instruction_at}
 use Rattle.tables.specs.Lookup.{lookup_extern}
-use Rattle.tables.specs.declared.lookup.Found.{Found}
-use Rattle.tables.specs.declared.lookup.Found.TheVariants.{At, Nothing}
 use Rattle.tables.specs.declared.rows.Instruction.{Instruction}
 use Rattle.tables.specs.Tables.{Tables}
 use Rattle.loader.proofs.Loaded.{Loaded, call-arguments, extern_parameters}
@@ -28,22 +27,22 @@ loaded_ranges l row h f = record { argument_range = call-arguments l row h f; pa
 -- the extern of a CALL that is found
 pub record CallAt (externs : List ℕ) (x : Instruction) (call : ExternCall) : Type 0 where
   pub row : ℕ
-  pub named : lookup_extern externs x.first_name ≡ At row
+  pub named : lookup_extern externs x.first_name ≡ Some row
   pub signature : call_of (extern_at externs row) x ≡ call
 
-call_by : (externs : List ℕ) (x : Instruction) (f : Found) (call : ExternCall) → lookup_extern externs x.first_name ≡ f
-    → (found_extern f >>= (λ row. ok (call_of (extern_at externs row) x))) ≡ ok call → CallAt externs x call
+call_by : (externs : List ℕ) (x : Instruction) (f : Option ℕ) (call : ExternCall) → lookup_extern externs x.first_name ≡ f
+    → (found_extern f >>= (λ row. Ok (call_of (extern_at externs row) x))) ≡ Ok call → CallAt externs x call
 unfolding ◌>>=◌
-call_by externs x (At row) call e h = record { row = row; named = e; signature = cc }
-call_by externs x Nothing call e h = let z : ◌≡◌ {A = ℕ} 0 1 = cc in absurd (omega arith)
+call_by externs x (Some row) call e h = record { row = row; named = e; signature = cc }
+call_by externs x None call e h = let z : ◌≡◌ {A = ℕ} 0 1 = cc in absurd (omega arith)
 
-pub call_at : (externs : List ℕ) (x : Instruction) (call : ExternCall) → find_call externs x ≡ ok call → CallAt externs x call
+pub call_at : (externs : List ℕ) (x : Instruction) (call : ExternCall) → find_call externs x ≡ Ok call → CallAt externs x call
 unfolding find_call
 call_at externs x call e = call_by externs x (lookup_extern externs x.first_name) call refl e
 
 -- its arguments and parameters lie in their tables
 pub call-ranges : {externs parameters arguments : List ℕ} {x : Instruction} {call : ExternCall} → CallRanges externs parameters arguments x
-    → find_call externs x ≡ ok call → Ranges parameters arguments call
+    → find_call externs x ≡ Ok call → Ranges parameters arguments call
 call-ranges {externs} {parameters} {arguments} {x} {call} r e =
     let c = call_at externs x call e in
     rw (← c.signature)

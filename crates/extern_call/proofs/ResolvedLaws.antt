@@ -1,4 +1,7 @@
 -- What a resolved argument says: its region is declared with that kind, and a vector's length is the region's. Assumes nothing.
+use Rattle.call_argument.specs.declared.error.CallArgumentError.{CallArgumentError}
+use Rattle.call_argument.specs.declared.error.CallArgumentResolutionError.{CallArgumentResolutionError}
+use Rattle.std.proofs.Common.{Option, Some, None, Result, Ok, Err}
 use Prim.Native.Nat.{ℕ, ◌+◌}
 use mathlib.Core.Path.{◌≡◌, refl}
 use mathlib.Core.Bool.{Bool, true, false, cond}
@@ -8,8 +11,6 @@ use lib.Dec.{eqb}
 use Rattle.tables.specs.Rows.{region_kind, region_length, region_at, parameter_at, argument_at}
 use Rattle.tables.specs.Lookup.{lookup_region}
 use Rattle.tables.specs.Cases.{case_of}
-use Rattle.tables.specs.declared.lookup.Found.{Found}
-use Rattle.tables.specs.declared.lookup.Found.TheVariants.{At, Nothing}
 use Rattle.tables.specs.declared.rows.Argument.{Argument}
 use Rattle.tables.specs.declared.rows.Parameter.{Parameter}
 use Rattle.tables.proofs.Passed.{both}
@@ -22,13 +23,9 @@ use Rattle.call_argument.specs.declared.argument.UnresolvedCallArgument.{Unresol
 use Rattle.call_argument.specs.declared.argument.UnresolvedCallArgument.TheVariants.{Identifier, Reference, Immediate}
 use Rattle.call_argument.specs.declared.resolved.ResolvedCallArgument.{ResolvedCallArgument}
 use Rattle.call_argument.specs.declared.resolved.ResolvedCallArgument.TheVariants as R
-use Rattle.call_argument.specs.declared.resolve.Resolution.{Resolution}
-use Rattle.call_argument.specs.declared.resolve.Resolution.TheVariants as N
 use Rattle.extern_call.specs.declared.call.ExternCall.{ExternCall}
 use Rattle.extern_call.specs.declared.call.Place.{Place}
 use Rattle.extern_call.specs.declared.call.Place.TheVariants as P
-use Rattle.extern_call.specs.declared.call.CallResolution.{CallResolution}
-use Rattle.extern_call.specs.declared.call.CallResolution.TheVariants.{Resolved, Failed}
 
 -- an argument's index for a scalar: "An identifier for a scalar, or for the return, means index 0"
 abbrev argument_index : UnresolvedCallArgument → ℕ
@@ -49,28 +46,28 @@ resolved_mutable (R.Immediate real imaginary kind) = 0
 
 -- a property of the resolved argument, where there is one
 module _ (Q : ResolvedCallArgument → Type 0) where
-  abbrev pub Gives : Resolution → Type 0
-  Gives (N.Resolved r) = Q r
-  Gives (N.Failed e) = Unit {0}
+  abbrev pub Gives : Result ResolvedCallArgument CallArgumentResolutionError → Type 0
+  Gives (Ok r) = Q r
+  Gives (Err e) = Unit {0}
 
-  gives_cond : (b : Bool) (r s : Resolution) → (b ≡ true → Gives r) → (b ≡ false → Gives s) → Gives (cond b r s)
+  gives_cond : (b : Bool) (r s : Result ResolvedCallArgument CallArgumentResolutionError) → (b ≡ true → Gives r) → (b ≡ false → Gives s) → Gives (cond b r s)
   gives_cond true r s p q = p refl
   gives_cond false r s p q = q refl
 
-  gives_declared : (f : Found) (name : ℕ) (rest : ℕ → Resolution) → ((k : ℕ) → f ≡ At k → Gives (rest k)) → Gives (declared f name rest)
-  gives_declared (At k) name rest p = p k refl
-  gives_declared Nothing name rest p = tt
+  gives_declared : (f : Option ℕ) (name : ℕ) (rest : ℕ → Result ResolvedCallArgument CallArgumentResolutionError) → ((k : ℕ) → f ≡ Some k → Gives (rest k)) → Gives (declared f name rest)
+  gives_declared (Some k) name rest p = p k refl
+  gives_declared None name rest p = tt
 
 -- a region of that name and kind
 pub record Declares (regions : List ℕ) (name kind : ℕ) : Type 0 where
   pub region : ℕ
-  pub named : lookup_region regions name ≡ At region
+  pub named : lookup_region regions name ≡ Some region
   pub of_kind : region_kind regions region ≡ kind
 
 -- and of that length
 pub record DeclaresVector (regions : List ℕ) (name : ℕ) (v : Vector) : Type 0 where
   pub region : ℕ
-  pub named : lookup_region regions name ≡ At region
+  pub named : lookup_region regions name ≡ Some region
   pub of_kind : region_kind regions region ≡ v.kind
   pub of_length : region_length regions region ≡ v.length
 
@@ -144,17 +141,17 @@ abbrev pub mutable_for : List ℕ → ExternCall → Place → ℕ
 mutable_for parameters call P.Return = 1
 mutable_for parameters call (P.Parameter k) = (parameter_at parameters (call.first_parameter + k)).mutable
 
-abbrev GivesCall : (ResolvedCallArgument → Type 0) → CallResolution → Type 0
-GivesCall Q (Resolved r) = Q r
-GivesCall Q (Failed e) = Unit {0}
+abbrev GivesCall : (ResolvedCallArgument → Type 0) → Result ResolvedCallArgument CallArgumentError → Type 0
+GivesCall Q (Ok r) = Q r
+GivesCall Q (Err e) = Unit {0}
 
-of_return_lem : (Q : ResolvedCallArgument → Type 0) (r : Resolution) → Gives Q r → GivesCall Q (of_return r)
-of_return_lem Q (N.Resolved r) q = q
-of_return_lem Q (N.Failed e) q = tt
+of_return_lem : (Q : ResolvedCallArgument → Type 0) (r : Result ResolvedCallArgument CallArgumentResolutionError) → Gives Q r → GivesCall Q (of_return r)
+of_return_lem Q (Ok r) q = q
+of_return_lem Q (Err e) q = tt
 
-of_parameter_lem : (Q : ResolvedCallArgument → Type 0) (index : ℕ) (r : Resolution) → Gives Q r → GivesCall Q (of_parameter index r)
-of_parameter_lem Q index (N.Resolved r) q = q
-of_parameter_lem Q index (N.Failed e) q = tt
+of_parameter_lem : (Q : ResolvedCallArgument → Type 0) (index : ℕ) (r : Result ResolvedCallArgument CallArgumentResolutionError) → Gives Q r → GivesCall Q (of_parameter index r)
+of_parameter_lem Q index (Ok r) q = q
+of_parameter_lem Q index (Err e) q = tt
 
 module _ (regions parameters arguments : List ℕ) (call : ExternCall) (i : ℕ) where
   row : Argument
@@ -168,7 +165,7 @@ module _ (regions parameters arguments : List ℕ) (call : ExternCall) (i : ℕ)
       of_parameter_lem _ k (by_argument regions row p (argument_of row)) (argument_facts regions row p (argument_of row))
 
   -- the facts of argument i, where it resolves
-  pub resolved_facts : (r : ResolvedCallArgument) → resolution_at regions parameters arguments call i ≡ Resolved r
+  pub resolved_facts : (r : ResolvedCallArgument) → resolution_at regions parameters arguments call i ≡ Ok r
       → Facts regions (argument_of (argument_at arguments (call.first_argument + i))) (mutable_for parameters call (place_of call i)) r
   unfolding row resolution_at
   resolved_facts r e = rw e at (place_facts (place_of call i))

@@ -1,4 +1,6 @@
 -- What `resolves_call` says of a CALL that resolves, and where its resolved rows stand. Assumes nothing.
+use Rattle.call_argument.specs.declared.error.CallArgumentError.{CallArgumentError}
+use Rattle.std.proofs.Common.{Result, Ok, Err}
 use Prim.Native.Nat.{ℕ, zero, suc, ◌+◌, ◌*◌, ◌<◌}
 use mathlib.Core.Path.{◌≡◌, refl, ◌∙◌}
 use mathlib.Core.Bool.{true}
@@ -8,7 +10,7 @@ use borrow.Author.Tests.{eqb-true}
 use lib.ListN.{length, get_or, length-append, get_or-append}
 use lib.Seq.{get_or-append-add}
 use Rattle.tables.specs.Refusal.{argument_count, argument_errors}
-use Rattle.tables.specs.Outcome.{Outcome, ok, refuse, ◌>>=◌, ◌>>◌, need}
+use Rattle.tables.specs.Outcome.{Outcome, ◌>>=◌, ◌>>◌, need}
 use Rattle.tables.specs.declared.rows.Instruction.{Instruction}
 use Rattle.tables.proofs.Passed.{passed}
 use Rattle.tables.proofs.FirstLaws.{every-row}
@@ -18,31 +20,29 @@ use Rattle.extern_call.specs.Gather.{gather, flat}
 use Rattle.extern_call.specs.Rows.{resolved_in, resolved_arguments}
 use Rattle.call_argument.specs.declared.resolved.ResolvedCallArgument.{ResolvedCallArgument}
 use Rattle.extern_call.specs.declared.call.ExternCall.{ExternCall}
-use Rattle.extern_call.specs.declared.call.CallResolution.{CallResolution}
-use Rattle.extern_call.specs.declared.call.CallResolution.TheVariants.{Resolved, Failed}
 use Rattle.extern_call.proofs.GatherLaws.{flat_append}
 use Rattle.extern_call.proofs.RowLaws.{resolved_width_lem}
 use Rattle.extern_call.proofs.CallLaws.{call-ranges}
 
 -- a CALL all of whose arguments resolve
 pub record Resolvable (regions externs parameters arguments : List ℕ) (x : Instruction) (call : ExternCall) : Type 0 where
-  pub found : find_call externs x ≡ ok call
+  pub found : find_call externs x ≡ Ok call
   pub count : call.argument_count ≡ expected_count call
   pub all : all_resolve regions parameters arguments call ≡ true
 
 module _ (regions externs parameters arguments : List ℕ) (x : Instruction) (call : ExternCall) where
   resolves_by : (o : Outcome ExternCall) → find_call externs x ≡ o
-      → (o >>= (λ c. need (is_counted c) argument_count >> (need (all_resolve regions parameters arguments c) argument_errors >> ok c))) ≡ ok call
+      → (o >>= (λ c. need (is_counted c) argument_count >> (need (all_resolve regions parameters arguments c) argument_errors >> Ok c))) ≡ Ok call
       → Resolvable regions externs parameters arguments x call
   unfolding ◌>>=◌
-  resolves_by (refuse n) f e = let z : ◌≡◌ {A = ℕ} 0 1 = cc in absurd (omega arith)
-  resolves_by (ok c) f e =
+  resolves_by (Err n) f e = let z : ◌≡◌ {A = ℕ} 0 1 = cc in absurd (omega arith)
+  resolves_by (Ok c) f e =
       let (counted, e₁) = passed (is_counted c) _ _ _ e in
       let (all, e₂) = passed (all_resolve regions parameters arguments c) _ _ _ e₁ in
       let same : c ≡ call = cc in
       record { found = f ∙ e₂; count = rw same at (eqb-true c.argument_count (expected_count c) counted); all = rw same at all }
 
-  pub resolves_ok : resolves_call regions externs parameters arguments x ≡ ok call → Resolvable regions externs parameters arguments x call
+  pub resolves_ok : resolves_call regions externs parameters arguments x ≡ Ok call → Resolvable regions externs parameters arguments x call
   unfolding resolves_call
   resolves_ok e = resolves_by (find_call externs x) refl e
 
@@ -77,13 +77,13 @@ five_at f i (suc n) (suc k) j h g l =
     rw (y, flat_append, get_or-append-add (flat resolved_row (f i)) (flat resolved_row (gather f (i + 1) n)) (k * 5 + j) 0) (rw w at b)
 
 -- an argument that resolves
-pub record ResolvedAs (r : CallResolution) : Type 0 where
+pub record ResolvedAs (r : Result ResolvedCallArgument CallArgumentError) : Type 0 where
   pub argument : ResolvedCallArgument
-  pub resolved : r ≡ Resolved argument
+  pub resolved : r ≡ Ok argument
 
-resolved_as : (r : CallResolution) → is_resolved r ≡ true → ResolvedAs r
-resolved_as (Resolved a) e = record { argument = a; resolved = refl }
-resolved_as (Failed f) e = let z : ◌≡◌ {A = ℕ} 0 1 = cc in absurd (omega arith)
+resolved_as : (r : Result ResolvedCallArgument CallArgumentError) → is_resolved r ≡ true → ResolvedAs r
+resolved_as (Ok a) e = record { argument = a; resolved = refl }
+resolved_as (Err f) e = let z : ◌≡◌ {A = ℕ} 0 1 = cc in absurd (omega arith)
 
 module _ (regions parameters arguments : List ℕ) (call : ExternCall) (all : all_resolve regions parameters arguments call ≡ true) where
   -- each argument resolves
@@ -103,7 +103,7 @@ module _ (regions parameters arguments : List ℕ) (call : ExternCall) (all : al
       (λ i h. (let z : 0 + i ≡ i = omega arith in rw z (each i h)))
 
   -- and row i stands at word 5 i
-  pub row_word : (i j : ℕ) (a : ResolvedCallArgument) → i < call.argument_count → j < 5 → resolution_at regions parameters arguments call i ≡ Resolved a
+  pub row_word : (i j : ℕ) (a : ResolvedCallArgument) → i < call.argument_count → j < 5 → resolution_at regions parameters arguments call i ≡ Ok a
       → get_or (flat resolved_row (resolved_arguments regions parameters arguments call)) (i * 5 + j) 0 ≡ get_or (resolved_row a) j 0
   unfolding resolved_arguments flat
   row_word i j a h g e =

@@ -1,4 +1,5 @@
 -- The width of a row, and how many rows an argument adds. Assumes nothing.
+use Rattle.std.proofs.Common.{Result, Ok, Err}
 use Prim.Native.Nat.{ℕ, ◌*◌, ◌≤◌}
 use mathlib.Core.Path.{◌≡◌, refl}
 use mathlib.Core.List.{append-nil}
@@ -14,8 +15,6 @@ use Rattle.call_argument.specs.declared.error.CallArgumentError.{CallArgumentErr
 use Rattle.call_argument.specs.declared.error.CallArgumentError.TheVariants.{Return, Argument}
 use Rattle.call_argument.specs.declared.resolved.ResolvedCallArgument.{ResolvedCallArgument}
 use Rattle.call_argument.specs.declared.resolved.ResolvedCallArgument.TheVariants as R
-use Rattle.extern_call.specs.declared.call.CallResolution.{CallResolution}
-use Rattle.extern_call.specs.declared.call.CallResolution.TheVariants.{Resolved, Failed}
 
 error-words : (e : CallArgumentResolutionError) → length (argument_error_words e) ≡ 5
 error-words (UndeclaredMemoryReference name) = refl
@@ -34,20 +33,20 @@ resolved_row_lem (R.Vector name v mutable) = refl
 resolved_row_lem (R.MemoryReference name index kind mutable) = refl
 resolved_row_lem (R.Immediate real imaginary kind) = refl
 
-pub error_width_lem : (r : CallResolution) → length (flat error_row (error_in r)) ≡ length (error_in r) * 7
+pub error_width_lem : (r : Result ResolvedCallArgument CallArgumentError) → length (flat error_row (error_in r)) ≡ length (error_in r) * 7
 unfolding flat
-error_width_lem (Resolved a) = refl
-error_width_lem (Failed e) = rw append-nil (error-row e)
+error_width_lem (Ok a) = refl
+error_width_lem (Err e) = rw append-nil (error-row e)
 
-pub resolved_width_lem : (r : CallResolution) → length (flat resolved_row (resolved_in r)) ≡ length (resolved_in r) * 5
+pub resolved_width_lem : (r : Result ResolvedCallArgument CallArgumentError) → length (flat resolved_row (resolved_in r)) ≡ length (resolved_in r) * 5
 unfolding flat
-resolved_width_lem (Resolved a) = rw append-nil (resolved_row_lem a)
-resolved_width_lem (Failed e) = refl
+resolved_width_lem (Ok a) = rw append-nil (resolved_row_lem a)
+resolved_width_lem (Err e) = refl
 
-pub error-few : (r : CallResolution) → length (error_in r) ≤ 1
-error-few (Resolved a) = omega arith
-error-few (Failed e) = omega arith
+pub error-few : (r : Result ResolvedCallArgument CallArgumentError) → length (error_in r) ≤ 1
+error-few (Ok a) = omega arith
+error-few (Err e) = omega arith
 
-pub resolved_few : (r : CallResolution) → length (resolved_in r) ≤ 1
-resolved_few (Resolved a) = omega arith
-resolved_few (Failed e) = omega arith
+pub resolved_few : (r : Result ResolvedCallArgument CallArgumentError) → length (resolved_in r) ≤ 1
+resolved_few (Ok a) = omega arith
+resolved_few (Err e) = omega arith

@@ -1,28 +1,21 @@
 -- The arguments of one CALL, and whether all resolve.
-use Rattle.std.specs.Prelude.{ℕ, ◌+◌, ◌-◌, ◌<◌, ◌≤◌, ◌≡◌, Bool, true, false, cond, List, eqb}
+use Rattle.call_argument.specs.declared.error.CallArgumentError.{CallArgumentError}
+use Rattle.call_argument.specs.declared.error.CallArgumentResolutionError.{CallArgumentResolutionError}
+use Rattle.call_argument.specs.declared.resolved.ResolvedCallArgument.{ResolvedCallArgument}
+use Rattle.std.specs.Prelude.{ℕ, ◌+◌, ◌-◌, ◌<◌, ◌≤◌, ◌≡◌, Bool, true, false, cond, List, eqb, Option, Some, None, Result, Ok, Err}
 use Rattle.tables.specs.First.{every}
 use Rattle.tables.specs.ParameterShape.{no_return}
 use Rattle.tables.specs.Refusal.{extern_not_found, argument_count, argument_errors}
-use Rattle.tables.specs.Outcome.{Outcome, ok, refuse, ◌>>=◌, ◌>>◌, need}
+use Rattle.tables.specs.Outcome.{Outcome, ◌>>=◌, ◌>>◌, need}
 use Rattle.tables.specs.Rows.{extern_rows, parameter_rows, argument_rows, extern_at, parameter_at, argument_at}
 use Rattle.tables.specs.Lookup.{lookup_extern}
-use Rattle.tables.specs.declared.lookup.Found.{Found}
-use Rattle.tables.specs.declared.lookup.Found.TheVariants.{At, Nothing}
 use Rattle.tables.specs.declared.rows.Extern.{Extern}
 use Rattle.tables.specs.declared.rows.Instruction.{Instruction}
 use Rattle.call_argument.specs.Resolve.{resolve_argument, resolve_return}
-use Rattle.call_argument.specs.declared.resolve.Resolution.{Resolution}
-use Rattle.call_argument.specs.declared.resolve.Resolution.TheVariants as N
 use Rattle.call_argument.specs.declared.error.CallArgumentError.TheVariants as E
 use Rattle.extern_call.specs.declared.call.ExternCall.{ExternCall}
-use Rattle.extern_call.specs.declared.call.FoundCall.{FoundCall}
-use Rattle.extern_call.specs.declared.call.FoundCall.TheVariants as F
 use Rattle.extern_call.specs.declared.call.Place.{Place}
 use Rattle.extern_call.specs.declared.call.Place.TheVariants.{Return, Parameter}
-use Rattle.extern_call.specs.declared.call.CallResolution.{CallResolution}
-use Rattle.extern_call.specs.declared.call.CallResolution.TheVariants.{Resolved, Failed}
-use Rattle.extern_call.specs.declared.call.CallAnswer.{CallAnswer}
-use Rattle.extern_call.specs.declared.call.CallAnswer.TheVariants as A
 
 -- "9 call: words 3 to 5 are extern name, first argument, count." With the extern's "return kind .., first parameter row, parameter count".
 abbrev pub call_of : Extern → Instruction → ExternCall
@@ -36,18 +29,18 @@ call_of signature x =
     }
 
 -- "6 extern not found"
-abbrev pub found_extern : Found → Outcome ℕ
-found_extern (At row) = ok row
-found_extern Nothing = refuse extern_not_found
+abbrev pub found_extern : Option ℕ → Outcome ℕ
+found_extern (Some row) = Ok row
+found_extern None = Err extern_not_found
 
 unfoldable pub find_call : List ℕ → Instruction → Outcome ExternCall
 find_call externs x = do
   row ← found_extern (lookup_extern externs x.first_name)
-  ok (call_of (extern_at externs row) x)
+  Ok (call_of (extern_at externs row) x)
 
-abbrev pub found_call : FoundCall → Outcome ExternCall
-found_call (F.At call) = ok call
-found_call F.Nothing = refuse extern_not_found
+abbrev pub found_call : Outcome ExternCall → Outcome ExternCall
+found_call (Ok call) = Ok call
+found_call (Err extern_not_found) = Err extern_not_found
 
 -- "parameters plus one for a return kind"
 unfoldable pub expected_count : ExternCall → ℕ
@@ -64,29 +57,29 @@ place_of call i =
     (cond (eqb i 0) Return (Parameter (i - 1)))
 
 -- "an error is the return's or a parameter's"
-abbrev pub of_return : Resolution → CallResolution
-of_return (N.Resolved a) = Resolved a
-of_return (N.Failed error) = Failed (E.Return error)
+abbrev pub of_return : Result ResolvedCallArgument CallArgumentResolutionError → Result ResolvedCallArgument CallArgumentError
+of_return (Ok a) = Ok a
+of_return (Err error) = Err (E.Return error)
 
-abbrev pub of_parameter : ℕ → Resolution → CallResolution
-of_parameter index (N.Resolved a) = Resolved a
-of_parameter index (N.Failed error) = Failed (E.Argument index error)
+abbrev pub of_parameter : ℕ → Result ResolvedCallArgument CallArgumentResolutionError → Result ResolvedCallArgument CallArgumentError
+of_parameter index (Ok a) = Ok a
+of_parameter index (Err error) = Err (E.Argument index error)
 
 -- what the argument i of a CALL resolves to
 module _ (regions parameters arguments : List ℕ) (call : ExternCall) where
-  abbrev pub resolution_for : ℕ → Place → CallResolution
+  abbrev pub resolution_for : ℕ → Place → Result ResolvedCallArgument CallArgumentError
   resolution_for i Return =
       of_return (resolve_return regions (argument_at arguments (call.first_argument + i)) call.return_kind)
   resolution_for i (Parameter k) =
       of_parameter k
       (resolve_argument regions (argument_at arguments (call.first_argument + i)) (parameter_at parameters (call.first_parameter + k)))
 
-  unfoldable pub resolution_at : ℕ → CallResolution
+  unfoldable pub resolution_at : ℕ → Result ResolvedCallArgument CallArgumentError
   resolution_at i = resolution_for i (place_of call i)
 
-abbrev pub is_resolved : CallResolution → Bool
-is_resolved (Resolved a) = true
-is_resolved (Failed e) = false
+abbrev pub is_resolved : Result ResolvedCallArgument CallArgumentError → Bool
+is_resolved (Ok a) = true
+is_resolved (Err e) = false
 
 -- whether every argument of the CALL resolves
 unfoldable pub all_resolve : List ℕ → List ℕ → List ℕ → ExternCall → Bool
@@ -94,9 +87,9 @@ all_resolve regions parameters arguments call =
     every (λ i. is_resolved (resolution_at regions parameters arguments call i)) call.argument_count
 
 -- the answer's cases: the CALL, or the refusal's number
-abbrev pub call_answer : CallAnswer → Outcome ExternCall
-call_answer (A.Resolves call) = ok call
-call_answer (A.Refused number) = refuse number
+abbrev pub call_answer : Outcome ExternCall → Outcome ExternCall
+call_answer (Ok call) = Ok call
+call_answer (Err number) = Err number
 
 -- "a call: 6, 7, 8 (number only)"
 unfoldable pub resolves_call : List ℕ → List ℕ → List ℕ → List ℕ → Instruction → Outcome ExternCall
@@ -104,7 +97,7 @@ resolves_call regions externs parameters arguments x = do
   call ← find_call externs x
   need (is_counted call) argument_count
   need (all_resolve regions parameters arguments call) argument_errors
-  ok call
+  Ok call
 
 -- What the functions over a CALL ask for, index safety alone: the CALL's arguments are rows of their table, and so are the parameters of each extern.
 pub record CallRanges (externs parameters arguments : List ℕ) (x : Instruction) : Type 0 where

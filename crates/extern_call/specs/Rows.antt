@@ -1,8 +1,8 @@
 -- A CALL resolved into lent rows. 01, Order: "Resolve: 1, 2, 3, 6, 7, 4 (7 words an argument), 8."
-use Rattle.std.specs.Prelude.{ℕ, ◌*◌, cond, List, [], ◌∷◌, leb, length}
+use Rattle.std.specs.Prelude.{ℕ, ◌*◌, cond, List, [], ◌∷◌, leb, length, Result, Ok, Err}
 use Rattle.std.proofs.lemmas.List.Edits.{sets}
 use Rattle.tables.specs.Refusal.{buffer_size, argument_count, argument_errors}
-use Rattle.tables.specs.Outcome.{Outcome, ok, refuse, ◌>>=◌, ◌>>◌, need}
+use Rattle.tables.specs.Outcome.{Outcome, ◌>>=◌, ◌>>◌, need}
 use Rattle.tables.specs.declared.rows.Instruction.{Instruction}
 use Rattle.call_argument.specs.Errors.{error_row}
 use Rattle.call_argument.specs.Resolved.{resolved_row}
@@ -11,8 +11,6 @@ use Rattle.extern_call.specs.Call.{find_call, is_counted, resolution_at, all_res
 use Rattle.call_argument.specs.declared.error.CallArgumentError.{CallArgumentError}
 use Rattle.call_argument.specs.declared.resolved.ResolvedCallArgument.{ResolvedCallArgument}
 use Rattle.extern_call.specs.declared.call.ExternCall.{ExternCall}
-use Rattle.extern_call.specs.declared.call.CallResolution.{CallResolution}
-use Rattle.extern_call.specs.declared.call.CallResolution.TheVariants.{Resolved, Failed}
 use Rattle.extern_call.specs.declared.rows.ResolveAnswer.{ResolveAnswer}
 use Rattle.extern_call.specs.declared.rows.ResolveAnswer.TheVariants as A
 
@@ -23,13 +21,13 @@ error_width = 7
 abbrev pub resolved_width : ℕ
 resolved_width = 5
 
-abbrev pub error_in : CallResolution → List CallArgumentError
-error_in (Resolved a) = []
-error_in (Failed e) = e ∷ []
+abbrev pub error_in : Result ResolvedCallArgument CallArgumentError → List CallArgumentError
+error_in (Ok a) = []
+error_in (Err e) = e ∷ []
 
-abbrev pub resolved_in : CallResolution → List ResolvedCallArgument
-resolved_in (Resolved a) = a ∷ []
-resolved_in (Failed e) = []
+abbrev pub resolved_in : Result ResolvedCallArgument CallArgumentError → List ResolvedCallArgument
+resolved_in (Ok a) = a ∷ []
+resolved_in (Err e) = []
 
 -- the ordered list of a CALL's errors
 unfoldable pub errors_of : List ℕ → List ℕ → List ℕ → ExternCall → List CallArgumentError
@@ -63,8 +61,8 @@ resolve_count (A.Resolved count) = count ∷ []
 
 -- "It writes nothing, but 8 in resolve writes its error rows and returns their count."
 abbrev pub or_refused : List ℕ → Outcome Resolving → Resolving
-or_refused rows (ok r) = r
-or_refused rows (refuse number) = resolving (A.Refused number) rows
+or_refused rows (Ok r) = r
+or_refused rows (Err number) = resolving (A.Refused number) rows
 
 -- the items' rows from word 0 on, and the answer with their count
 abbrev pub with_rows : {A : Type 0} → (ℕ → ResolveAnswer) → (A → List ℕ) → List A → List ℕ → Resolving
@@ -76,7 +74,7 @@ resolve_call regions externs parameters arguments x rows = or_refused rows (do
   call ← find_call externs x
   need (is_counted call) argument_count
   need (leb (error_width * call.argument_count) (length rows)) buffer_size
-  ok
+  Ok
       (cond (all_resolve regions parameters arguments call)
       (with_rows A.Resolved resolved_row (resolved_arguments regions parameters arguments call) rows)
       (with_rows A.Errors error_row (errors_of regions parameters arguments call) rows)))

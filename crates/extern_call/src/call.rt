@@ -3,12 +3,12 @@
 ghost use Rattle.std.specs.Prelude.{◌≡◌, ◌+◌, ◌^◌, ◌<◌};
 ghost use Rattle.extern_call.specs.Call.{found_call, find_call, expected_count, place_of, of_return, of_parameter, resolution_at, Paired, Counted, all_resolve, CallRanges, call_answer, resolves_call};
 
-use call_argument::error::CallArgumentError;
-use call_argument::resolve::{Resolution, resolve_argument, resolve_return};
+use call_argument::error::{CallArgumentError, CallArgumentResolutionError};
+use call_argument::resolve::{resolve_argument, resolve_return};
 use call_argument::resolved::ResolvedCallArgument;
-use tables::lookup::{Found, lookup_extern};
+use tables::lookup::lookup_extern;
 use tables::parameter_shape::NO_RETURN;
-use tables::refusal::{ARGUMENT_COUNT, ARGUMENT_ERRORS, EXTERN_NOT_FOUND};
+use tables::refusal::Refusal;
 use tables::rows::{Instruction, argument_at, extern_at, parameter_at};
 
 // A CALL with its extern's signature.
@@ -21,13 +21,6 @@ pub struct ExternCall {
     pub argument_count: usize,
 }
 
-// Whether a CALL's extern is there.
-#[derive(Drop)]
-pub enum FoundCall {
-    At(ExternCall),
-    Nothing,
-}
-
 // Whose an argument is: the return's, or that parameter's.
 #[derive(Drop)]
 pub enum Place {
@@ -35,29 +28,15 @@ pub enum Place {
     Parameter(usize),
 }
 
-// What an argument of a CALL resolves to.
-#[derive(Drop)]
-pub enum CallResolution {
-    Resolved(ResolvedCallArgument),
-    Failed(CallArgumentError),
-}
-
-// A CALL that resolves, or the refusal.
-#[derive(Drop)]
-pub enum CallAnswer {
-    Resolves(ExternCall),
-    Refused(u64),
-}
-
 // The CALL of an instruction's row, with the signature of its extern.
-pub fn find_call(externs: &[u64], x: Instruction) -> FoundCall
+pub fn find_call(externs: &[u64], x: Instruction) -> Result<ExternCall, Refusal>
     ensures { found_call result ≡ find_call externs.now x }
 {
-    let Found::At(row) = lookup_extern(externs, x.first_name) else {
-        return FoundCall::Nothing;
+    let Some(row) = lookup_extern(externs, x.first_name) else {
+        return Err(Refusal::ExternNotFound);
     };
     let signature = extern_at(externs, row);
-    FoundCall::At(ExternCall {
+    Ok(ExternCall {
         return_kind: signature.return_kind,
         first_parameter: signature.first_parameter as usize,
         parameter_count: signature.parameter_count as usize,
@@ -90,24 +69,26 @@ pub fn place_of(call: ExternCall, i: usize) -> Place
     Place::Parameter(i - 1)
 }
 
-fn of_return(r: Resolution) -> CallResolution
+fn of_return(
+    r: Result<ResolvedCallArgument, CallArgumentResolutionError>,
+) -> Result<ResolvedCallArgument, CallArgumentError>
     ensures { result ≡ of_return r }
 {
     match r {
-        Resolution::Resolved(a) => CallResolution::Resolved(a),
-        Resolution::Failed(error) => CallResolution::Failed(CallArgumentError::Return(error)),
+        Ok(a) => Ok(a),
+        Err(error) => Err(CallArgumentError::Return(error)),
     }
 }
 
-fn of_parameter(index: usize, r: Resolution) -> CallResolution
+fn of_parameter(
+    index: usize,
+    r: Result<ResolvedCallArgument, CallArgumentResolutionError>,
+) -> Result<ResolvedCallArgument, CallArgumentError>
     ensures { result ≡ of_parameter index r }
 {
     match r {
-        Resolution::Resolved(a) => CallResolution::Resolved(a),
-        Resolution::Failed(error) => CallResolution::Failed(CallArgumentError::Argument {
-            index,
-            error,
-        }),
+        Ok(a) => Ok(a),
+        Err(error) => Err(CallArgumentError::Argument { index, error }),
     }
 }
 
@@ -118,7 +99,7 @@ pub fn resolve_at(
     arguments: &[u64],
     call: ExternCall,
     i: usize,
-) -> CallResolution
+) -> Result<ResolvedCallArgument, CallArgumentError>
     requires { Paired parameters.now arguments.now call i }
     ensures { result ≡ resolution_at regions.now parameters.now arguments.now call i }
 {
@@ -142,7 +123,7 @@ pub fn all_resolve(regions: &[u64], parameters: &[u64], arguments: &[u64], call:
     let mut i = 0;
     while i < n {
         let resolution = resolve_at(regions, parameters, arguments, call, i);
-        if let CallResolution::Failed(_) = resolution {
+        if let Err(_) = resolution {
             return false;
         }
         i += 1;
@@ -157,18 +138,18 @@ pub fn resolves(
     parameters: &[u64],
     arguments: &[u64],
     x: Instruction,
-) -> CallAnswer
+) -> Result<ExternCall, Refusal>
     requires { CallRanges externs.now parameters.now arguments.now x }
     ensures { call_answer result ≡ resolves_call regions.now externs.now parameters.now arguments.now x }
 {
-    let FoundCall::At(call) = find_call(externs, x) else {
-        return CallAnswer::Refused(EXTERN_NOT_FOUND);
+    let Ok(call) = find_call(externs, x) else {
+        return Err(Refusal::ExternNotFound);
     };
     if call.argument_count != expected_count(call) {
-        return CallAnswer::Refused(ARGUMENT_COUNT);
+        return Err(Refusal::ArgumentCount);
     }
     if all_resolve(regions, parameters, arguments, call) {
-        return CallAnswer::Resolves(call);
+        return Ok(call);
     }
-    CallAnswer::Refused(ARGUMENT_ERRORS)
+    Err(Refusal::ArgumentErrors)
 }

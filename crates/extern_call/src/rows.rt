@@ -8,12 +8,10 @@ ghost use Rattle.extern_call.specs.Call.{Counted, CallRanges};
 ghost use Rattle.extern_call.specs.Inner.{Stored};
 ghost use Rattle.extern_call.specs.Rows.{error_in, resolved_in, errors_of, resolved_arguments, error_width, resolved_width, resolving, resolve_call};
 
-use crate::call::{
-    CallResolution, ExternCall, FoundCall, all_resolve, expected_count, find_call, resolve_at,
-};
-use call_argument::error::error_row;
-use call_argument::resolved::resolved_row;
-use tables::refusal::{ARGUMENT_COUNT, BUFFER_SIZE, EXTERN_NOT_FOUND};
+use crate::call::{ExternCall, all_resolve, expected_count, find_call, resolve_at};
+use call_argument::error::{CallArgumentError, error_row};
+use call_argument::resolved::{ResolvedCallArgument, resolved_row};
+use tables::refusal::Refusal;
 use tables::rows::Instruction;
 
 // Words in a row of each kind.
@@ -42,11 +40,15 @@ fn store(rows: &mut [u64], at: usize, words: &[u64])
 }
 
 // An error's row, after `count` of them; how many there are then.
-fn put_error(rows: &mut [u64], count: usize, r: CallResolution) -> usize
+fn put_error(
+    rows: &mut [u64],
+    count: usize,
+    r: Result<ResolvedCallArgument, CallArgumentError>,
+) -> usize
     requires { count * error_width + error_width ≤ length rows.old }
     ensures { Stored error_row error_width count (error_in r) rows.old rows.new result }
 {
-    let CallResolution::Failed(e) = r else {
+    let Err(e) = r else {
         return count;
     };
     let words = error_row(e);
@@ -55,11 +57,15 @@ fn put_error(rows: &mut [u64], count: usize, r: CallResolution) -> usize
 }
 
 // A resolved row, after `count` of them; how many there are then.
-fn put_resolved(rows: &mut [u64], count: usize, r: CallResolution) -> usize
+fn put_resolved(
+    rows: &mut [u64],
+    count: usize,
+    r: Result<ResolvedCallArgument, CallArgumentError>,
+) -> usize
     requires { count * resolved_width + resolved_width ≤ length rows.old }
     ensures { Stored resolved_row resolved_width count (resolved_in r) rows.old rows.new result }
 {
-    let CallResolution::Resolved(a) = r else {
+    let Ok(a) = r else {
         return count;
     };
     let words = resolved_row(a);
@@ -123,14 +129,14 @@ pub fn resolve_call(
     requires { CallRanges externs.now parameters.now arguments.now x }
     ensures { resolving result rows.new ≡ resolve_call regions.now externs.now parameters.now arguments.now x rows.old }
 {
-    let FoundCall::At(call) = find_call(externs, x) else {
-        return ResolveAnswer::Refused(EXTERN_NOT_FOUND);
+    let Ok(call) = find_call(externs, x) else {
+        return ResolveAnswer::Refused(Refusal::ExternNotFound);
     };
     if call.argument_count != expected_count(call) {
-        return ResolveAnswer::Refused(ARGUMENT_COUNT);
+        return ResolveAnswer::Refused(Refusal::ArgumentCount);
     }
     if rows.len() < ERROR_WIDTH * call.argument_count {
-        return ResolveAnswer::Refused(BUFFER_SIZE);
+        return ResolveAnswer::Refused(Refusal::BufferSize);
     }
     if all_resolve(regions, parameters, arguments, call) {
         return ResolveAnswer::Resolved(write_resolved(regions, parameters, arguments, call, rows));

@@ -1,5 +1,6 @@
 -- What the verdict on a program says: an error is the judgement on one of its rows; where it is accepted, each row passes. And a row's judgement, by
 -- its family; and what the check asks for, from the loader's acceptance. Assumes nothing.
+use Rattle.std.proofs.Common.{Ok, Err}
 use Prim.Native.Nat.{ℕ, ◌+◌, ◌<◌, ◌≤◌}
 use mathlib.Core.Bool.{true, false, cond}
 use mathlib.Core.List.{List}
@@ -20,7 +21,6 @@ use Rattle.type_rules.specs.Codes.{first_code, second_code, reference_code, oper
 use Rattle.type_check.specs.Frame.{frame_rule}
 use Rattle.type_check.specs.Check.{judgement_of, verdict_of, is_error, row_verdict, check_of, FrameInside, FramesInside}
 use Rattle.type_rules.specs.declared.error.TypeError.{TypeError}
-use Rattle.type_rules.specs.declared.error.Verdict.TheVariants.{Accepted, Error}
 use Rattle.type_check.proofs.Searches.{searched}
 
 -- every frame's range lies in the node table
@@ -54,35 +54,35 @@ passes : (row : ℕ) (j : Judgement) → is_error (verdict_at row j) ≡ false �
 passes row pass q = refl
 passes row (fail f) q = let z : ◌≡◌ {A = ℕ} 0 1 = cc in absurd (omega arith)
 
-same_row : (row : ℕ) (j : Judgement) {e : TypeError} → Error e ≡ verdict_at row j → e.row ≡ row
+same_row : (row : ℕ) (j : Judgement) {e : TypeError} → Err e ≡ verdict_at row j → e.row ≡ row
 same_row row pass q = let z : ◌≡◌ {A = ℕ} 0 1 = cc in absurd (omega arith)
 same_row row (fail f) q = cc
 
 -- an error that was reported: its row is one of the program's, and it is that row's judgement
 pub record Reported (regions nodes instructions : List ℕ) (e : TypeError) : Type 0 where
   pub inside : e.row < instruction_rows instructions
-  pub is : Error e ≡ verdict_at e.row (judgement_of regions nodes (instruction_at instructions e.row))
+  pub is : Err e ≡ verdict_at e.row (judgement_of regions nodes (instruction_at instructions e.row))
 
 module _ (regions nodes instructions : List ℕ) where
-  pub reported : {e : TypeError} → check_of regions nodes instructions ≡ Error e → Reported regions nodes instructions e
+  pub reported : {e : TypeError} → check_of regions nodes instructions ≡ Err e → Reported regions nodes instructions e
   unfolding check_of verdict_of
   reported {e} q =
       ⊎_elim
       (λ h.
-      let w : Error e ≡ verdict_at h.row (judgement_of regions nodes (instruction_at instructions h.row)) = sym q ∙ h.is in
+      let w : Err e ≡ verdict_at h.row (judgement_of regions nodes (instruction_at instructions h.row)) = sym q ∙ h.is in
       let s : e.row ≡ h.row = same_row h.row (judgement_of regions nodes (instruction_at instructions h.row)) w in
       let b : h.row < 0 + instruction_rows instructions = h.below in
       record { inside = omega arith; is = w ∙ ap (λ (k : ℕ). verdict_at k (judgement_of regions nodes (instruction_at instructions k))) (sym s) })
       (λ m. let z : ◌≡◌ {A = ℕ} 0 1 = cc in absurd (omega arith))
       (searched _ _ _ 0 (instruction_rows instructions))
 
-  module _ (accepted : check_of regions nodes instructions ≡ Accepted) (k : ℕ) (inside : k < instruction_rows instructions) where
+  module _ (accepted : check_of regions nodes instructions ≡ (Ok tt)) (k : ℕ) (inside : k < instruction_rows instructions) where
     not-error : is_error (row_verdict regions nodes instructions k) ≡ false
     unfolding check_of
     not-error =
         ⊎_elim
         (λ h.
-        let t : is_error Accepted ≡ true = ap is_error (sym accepted ∙ h.is) ∙ h.holds in
+        let t : is_error (Ok tt) ≡ true = ap is_error (sym accepted ∙ h.is) ∙ h.holds in
         let z : ◌≡◌ {A = ℕ} 0 1 = cc in
         absurd (omega arith))
         (λ m. m.1.fails k (omega arith) (omega arith))

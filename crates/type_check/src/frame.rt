@@ -8,11 +8,11 @@ ghost use Rattle.type_check.specs.Frame.{address_rule, number_verdict, node_verd
 ghost use Rattle.type_check.specs.Looked.{tree_check, frame_check};
 
 use reals::real::above_epsilon;
-use tables::lookup::{Found, lookup_region};
+use tables::lookup::lookup_region;
 use tables::node_tag;
 use tables::rows::{Instruction, Node, node_at};
 use type_rules::code::{IMAGINARY, NODE, VARIABLE};
-use type_rules::error::{Verdict, real_value_required, undefined_memory_reference};
+use type_rules::error::{TypeError, real_value_required, undefined_memory_reference};
 use type_rules::rules::kind_at;
 use words::kind::REAL;
 
@@ -22,12 +22,6 @@ pub enum NodeError {
     NotReal(u64),
 }
 
-#[derive(Drop)]
-pub enum NodeVerdict {
-    Real,
-    Fails(NodeError),
-}
-
 // The place counts nodes of the tree from 0.
 #[derive(Drop)]
 pub enum TreeVerdict {
@@ -35,39 +29,39 @@ pub enum TreeVerdict {
     FailsAt(u64, NodeError),
 }
 
-fn check_address(regions: &[u64], name: u64) -> NodeVerdict
+fn check_address(regions: &[u64], name: u64) -> Result<(), NodeError>
     ensures { result ≡ address_rule (code_of regions.now name) }
 {
-    let Found::At(region) = lookup_region(regions, name) else {
-        return NodeVerdict::Fails(NodeError::Undefined);
+    let Some(region) = lookup_region(regions, name) else {
+        return Err(NodeError::Undefined);
     };
     let kind = kind_at(regions, region);
     match kind {
-        REAL => NodeVerdict::Real,
-        _ => NodeVerdict::Fails(NodeError::NotReal(kind)),
+        REAL => Ok(()),
+        _ => Err(NodeError::NotReal(kind)),
     }
 }
 
-fn check_number(imaginary: u64) -> NodeVerdict
+fn check_number(imaginary: u64) -> Result<(), NodeError>
     ensures { result ≡ number_verdict imaginary }
 {
     if above_epsilon(imaginary) {
-        NodeVerdict::Fails(NodeError::NotReal(IMAGINARY))
+        Err(NodeError::NotReal(IMAGINARY))
     } else {
-        NodeVerdict::Real
+        Ok(())
     }
 }
 
 // One node by itself; its children are rows of their own.
-fn should_be_real(regions: &[u64], node: Node) -> NodeVerdict
+fn should_be_real(regions: &[u64], node: Node) -> Result<(), NodeError>
     ensures { result ≡ node_verdict regions.now node }
 {
     let tag = node.tag;
     match tag {
         node_tag::ADDRESS => check_address(regions, node.first),
         node_tag::NUMBER => check_number(node.second),
-        node_tag::VARIABLE => NodeVerdict::Fails(NodeError::NotReal(VARIABLE)),
-        _ => NodeVerdict::Real,
+        node_tag::VARIABLE => Err(NodeError::NotReal(VARIABLE)),
+        _ => Ok(()),
     }
 }
 
@@ -88,7 +82,7 @@ fn check_tree(regions: &[u64], nodes: &[u64], first: usize, count: usize) -> Tre
         let place = looked;
         let verdict = should_be_real(regions, node_at(nodes, first + place));
         looked += 1;
-        if let NodeVerdict::Fails(error) = verdict {
+        if let Err(error) = verdict {
             return TreeCheck {
                 verdict: TreeVerdict::FailsAt(place as u64, error),
                 looked: looked as u64,
@@ -101,7 +95,7 @@ fn check_tree(regions: &[u64], nodes: &[u64], first: usize, count: usize) -> Tre
     }
 }
 
-fn node_error(row: u64, spot: u64, error: NodeError) -> Verdict
+fn node_error(row: u64, spot: u64, error: NodeError) -> Result<(), TypeError>
     ensures { result ≡ verdict_at row (node_fault spot error) }
 {
     match error {
@@ -113,7 +107,7 @@ fn node_error(row: u64, spot: u64, error: NodeError) -> Verdict
 // A frame's verdict, and how many nodes of its expression were looked at.
 #[derive(Drop)]
 pub struct FrameCheck {
-    pub verdict: Verdict,
+    pub verdict: Result<(), TypeError>,
     pub looked: u64,
 }
 
@@ -130,7 +124,7 @@ pub fn check_frame(regions: &[u64], nodes: &[u64], row: u64, x: Instruction) -> 
     let verdict = tree.verdict;
     let TreeVerdict::FailsAt(place, error) = verdict else {
         return FrameCheck {
-            verdict: Verdict::Accepted,
+            verdict: Ok(()),
             looked: tree.looked,
         };
     };

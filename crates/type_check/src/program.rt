@@ -6,13 +6,13 @@ ghost use Rattle.type_check.specs.Check.{FrameInside, FramesInside, verdict_of, 
 use crate::frame::check_frame;
 use tables::family;
 use tables::rows::{INSTRUCTION_WIDTH, Instruction, instruction_at};
-use type_rules::error::Verdict;
+use type_rules::error::TypeError;
 use type_rules::rules::{
     type_check_arithmetic, type_check_binary_logic, type_check_comparison, type_check_exchange,
     type_check_load, type_check_move, type_check_store, type_check_unary_logic,
 };
 
-pub fn check_row(regions: &[u64], nodes: &[u64], row: u64, x: Instruction) -> Verdict
+pub fn check_row(regions: &[u64], nodes: &[u64], row: u64, x: Instruction) -> Result<(), TypeError>
     requires { FrameInside nodes.now x }
     ensures { result ≡ verdict_of regions.now nodes.now row x }
 {
@@ -27,11 +27,11 @@ pub fn check_row(regions: &[u64], nodes: &[u64], row: u64, x: Instruction) -> Ve
         family::LOAD => type_check_load(regions, row, x),
         family::STORE => type_check_store(regions, row, x),
         family::FRAME => check_frame(regions, nodes, row, x).verdict,
-        _ => Verdict::Accepted,
+        _ => Ok(()),
     }
 }
 
-pub fn check_program(regions: &[u64], nodes: &[u64], instructions: &[u64]) -> Verdict
+pub fn check_program(regions: &[u64], nodes: &[u64], instructions: &[u64]) -> Result<(), TypeError>
     requires { FramesInside nodes.now instructions.now }
     ensures { result ≡ check_of regions.now nodes.now instructions.now }
 {
@@ -44,10 +44,10 @@ pub fn check_program(regions: &[u64], nodes: &[u64], instructions: &[u64]) -> Ve
             row as u64,
             instruction_at(instructions, row),
         );
-        if let Verdict::Error(error) = verdict {
-            return Verdict::Error(error);
+        if let Err(error) = verdict {
+            return Err(error);
         }
         row += 1;
     }
-    Verdict::Accepted
+    Ok(())
 }

@@ -6,10 +6,10 @@ resolve_at-resolution-requires c = c.requires.paired
 
 pub argument_cell-requires : goal.argument_cell-requires
 argument_cell-requires c =
-    (c.requires.laid, rw (sym c.resolve_at-resolution.ensures ∙ c.in-Resolved.is) at c.requires.cell)
+    (c.requires.laid, rw (sym c.resolve_at-resolution.ensures ∙ c.in-Ok.is) at c.requires.cell)
 
-pub returns-in-Resolved : goal.returns-in-Resolved
-returns-in-Resolved c = rw (sym c.resolve_at-resolution.ensures ∙ c.in-Resolved.is) c.argument_cell.ensures
+pub returns-in-Ok : goal.returns-in-Ok
+returns-in-Ok c = rw (sym c.resolve_at-resolution.ensures ∙ c.in-Ok.is) c.argument_cell.ensures
 
-pub returns-in-Failed : goal.returns-in-Failed
-returns-in-Failed c = rw (sym c.resolve_at-resolution.ensures ∙ c.in-Failed.is)
+pub returns-in-Err : goal.returns-in-Err
+returns-in-Err c = rw (sym c.resolve_at-resolution.ensures ∙ c.in-Err.is)

@@ -18,7 +18,7 @@ returns-in_default-index_cell c = word_past _ _ _ (sym c.lookup_region.ensures �
 pub word_at-requires : goal.word_at-requires
 word_at-requires c =
     in_cells c.requires
-    (indexed_within c.requires.laid _ c.args.x.first_index (region-row _ c.args.x.first_name _ (sym c.lookup_region.ensures ∙ c.in-Some.is)) (seen c.index_cell.ensures c.in-Some-index_cell.is))
+    (indexed_within c.requires.laid _ c.args.x.first_index (region-row _ c.args.x.first_name _ (sym c.lookup_region.ensures ∙ c.in-Some.is)) (seen c.index_cell.ensures c.in-Ok.is))
 
 pub returns : goal.returns
-returns c = c.word_at.ensures ∙ word-there _ _ _ (sym c.lookup_region.ensures ∙ c.in-Some.is) (seen c.index_cell.ensures c.in-Some-index_cell.is)
+returns c = c.word_at.ensures ∙ word-there _ _ _ (sym c.lookup_region.ensures ∙ c.in-Some.is) (seen c.index_cell.ensures c.in-Ok.is)

@@ -12,9 +12,9 @@ loop-i-init c = every-start _ _
 pub resolve_at-resolution-requires : goal.resolve_at-resolution-requires
 resolve_at-resolution-requires c = counted-paired _ c.requires c.loop-i-test.true
 
-pub returns-in-Failed : goal.returns-in-Failed
+pub returns-in-Err : goal.returns-in-Err
 unfolding all_resolve
-returns-in-Failed c = every_stop _ _ _ c.loop-i.invariant c.loop-i-test.true (ap is_resolved (sym c.resolve_at-resolution.ensures ∙ c.in-Failed.is))
+returns-in-Err c = every_stop _ _ _ c.loop-i.invariant c.loop-i-test.true (ap is_resolved (sym c.resolve_at-resolution.ensures ∙ c.in-Err.is))
 
 pub loop-i-preserved : goal.loop-i-preserved
 unfolding all_resolve

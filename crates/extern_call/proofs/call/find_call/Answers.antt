@@ -9,8 +9,8 @@ unfolding find_call ◌>>=◌
 returns-in_default c = rw (sym c.lookup_extern.ensures ∙ c.in_default.is)
 
 pub extern_at-signature-requires : goal.extern_at-signature-requires
-extern_at-signature-requires c = lookup_within _ _ _ _ (sym c.lookup_extern.ensures ∙ c.in-At.is)
+extern_at-signature-requires c = lookup_within _ _ _ _ (sym c.lookup_extern.ensures ∙ c.in-Some.is)
 
 pub returns : goal.returns
 unfolding find_call ◌>>=◌
-returns c = rw (sym c.lookup_extern.ensures ∙ c.in-At.is, c.extern_at-signature.ensures)
+returns c = rw (sym c.lookup_extern.ensures ∙ c.in-Some.is, c.extern_at-signature.ensures)

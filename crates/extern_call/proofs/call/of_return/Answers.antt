@@ -1,7 +1,7 @@
 use Rattle.extern_call.proofs.call.of_return.Goals as goal
 
-pub returns-in-Resolved : goal.returns-in-Resolved
-returns-in-Resolved c = rw c.in-Resolved.is
+pub returns-in-Ok : goal.returns-in-Ok
+returns-in-Ok c = rw c.in-Ok.is
 
-pub returns-in-Failed : goal.returns-in-Failed
-returns-in-Failed c = rw c.in-Failed.is
+pub returns-in-Err : goal.returns-in-Err
+returns-in-Err c = rw c.in-Err.is

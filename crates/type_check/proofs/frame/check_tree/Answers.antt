@@ -14,10 +14,10 @@ loop-looked-init c = (search rules, omega arith, first-all _ _ _ _)
 pub node_at-requires : goal.node_at-requires
 node_at-requires c = omega arith
 
-pub returns-in-Fails : goal.returns-in-Fails
-returns-in-Fails c =
+pub returns-in-Err : goal.returns-in-Err
+returns-in-Err c =
     let v = c.should_be_real-verdict.ensures ∙ ap (node_verdict _) c.node_at.ensures in
-    let seen = sym v ∙ c.in-Fails.is in
+    let seen = sym v ∙ c.in-Err.is in
     checked _ _ _ _ (ap (at_place _) (sym seen) ∙ (sym (first_hit _ _ _ _ _ c.loop-looked-test.true (ap is_failure seen)) ∙ c.loop-looked.invariant.2)) refl
 
 pub loop-looked-preserved : goal.loop-looked-preserved

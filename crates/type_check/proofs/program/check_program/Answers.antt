@@ -12,8 +12,8 @@ loop-row-init c = (c.requires, refl, first-all _ _ _ _)
 pub check_row-verdict-requires : goal.check_row-verdict-requires
 check_row-verdict-requires c = rw c.instruction_at.ensures (c.loop-row.invariant.0.row _ (search rules))
 
-pub returns-in-Error : goal.returns-in-Error
-returns-in-Error c = sym c.in-Error.is ∙ ((c.check_row-verdict.ensures ∙ ap (verdict_of _ _ _) c.instruction_at.ensures) ∙ (sym (first_hit _ _ _ _ _ c.loop-row-test.true (ap is_error (sym (c.check_row-verdict.ensures ∙ ap (verdict_of _ _ _) c.instruction_at.ensures) ∙ c.in-Error.is))) ∙ c.loop-row.invariant.2))
+pub returns-in-Err : goal.returns-in-Err
+returns-in-Err c = sym c.in-Err.is ∙ ((c.check_row-verdict.ensures ∙ ap (verdict_of _ _ _) c.instruction_at.ensures) ∙ (sym (first_hit _ _ _ _ _ c.loop-row-test.true (ap is_error (sym (c.check_row-verdict.ensures ∙ ap (verdict_of _ _ _) c.instruction_at.ensures) ∙ c.in-Err.is))) ∙ c.loop-row.invariant.2))
 
 pub loop-row-preserved : goal.loop-row-preserved
 loop-row-preserved c = (c.loop-row.invariant.0, c.loop-row.invariant.1, sym (first_miss _ _ _ _ _ c.loop-row-test.true (ap is_error (sym (c.check_row-verdict.ensures ∙ ap (verdict_of _ _ _) c.instruction_at.ensures) ∙ c.in_default.is))) ∙ c.loop-row.invariant.2)
