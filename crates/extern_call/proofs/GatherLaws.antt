@@ -1,4 +1,5 @@
 -- Laws of `gather`, `flat` and `Stored`: a loop over the arguments that writes their rows, from its start to its end. Assumes nothing.
+use Rattle.std.proofs.Common.{Result}
 use Prim.Native.Nat.{ℕ, suc, ◌+◌, ◌-◌, ◌*◌, ◌<◌, ◌≤◌}
 use mathlib.Core.Path.{◌≡◌, refl, sym, ◌∙◌}
 use mathlib.Core.List.{List, [], ◌∷◌, ◌++◌, append-nil, append_assoc}
@@ -11,7 +12,7 @@ use Rattle.tables.proofs.FirstLaws.{left_suc}
 use Rattle.extern_call.specs.Gather.{gather, flat}
 use Rattle.extern_call.specs.Inner.{Stored}
 use Rattle.extern_call.specs.Rows.{resolving, with_rows}
-use Rattle.extern_call.specs.declared.rows.ResolveAnswer.{ResolveAnswer}
+use Rattle.extern_call.specs.declared.rows.ResolveError.{ResolveError}
 
 module _ {A : Type 0} (f : ℕ → List A) (n i : ℕ) where
   pub gather-turn : i < n → gather f i (n - i) ≡ f i ++ gather f (i + 1) (n - (i + 1))
@@ -92,7 +93,7 @@ module _ {A : Type 0} (row : A → List ℕ) (width : ℕ) (f : ℕ → List A) 
       }
 
 -- a whole CALL's rows, as resolve gives them
-pub all_stored : {A : Type 0} (row : A → List ℕ) (width : ℕ) (answer : ℕ → ResolveAnswer) (items : List A) (entry exit : List ℕ) (n : ℕ)
+pub all_stored : {A : Type 0} (row : A → List ℕ) (width : ℕ) (answer : ℕ → Result ℕ ResolveError) (items : List A) (entry exit : List ℕ) (n : ℕ)
     → Stored row width 0 items entry exit n → resolving (answer n) exit ≡ with_rows answer row items entry
 all_stored row width answer items entry exit n s =
     let z : 0 * width ≡ 0 = omega arith in

@@ -2,7 +2,8 @@
 use Rattle.call_argument.specs.declared.error.CallArgumentError.{CallArgumentError}
 use Rattle.call_argument.specs.declared.error.CallArgumentResolutionError.{CallArgumentResolutionError}
 use Rattle.call_argument.specs.declared.resolved.ResolvedCallArgument.{ResolvedCallArgument}
-use Rattle.std.specs.Prelude.{ℕ, ◌+◌, ◌-◌, ◌<◌, ◌≤◌, ◌≡◌, Bool, true, false, cond, List, eqb, Option, Some, None, Result, Ok, Err}
+use Rattle.std.specs.Prelude.{ℕ, ◌+◌, ◌-◌, ◌<◌, ◌≤◌, ◌≡◌, Bool, true, false, cond, List, eqb, Option, Result, Ok, Err}
+use Rattle.std.specs.Option.{ok_or}
 use Rattle.tables.specs.First.{every}
 use Rattle.tables.specs.ParameterShape.{no_return}
 use Rattle.tables.specs.Refusal.{extern_not_found, argument_count, argument_errors}
@@ -30,17 +31,12 @@ call_of signature x =
 
 -- "6 extern not found"
 abbrev pub found_extern : Option ℕ → Outcome ℕ
-found_extern (Some row) = Ok row
-found_extern None = Err extern_not_found
+found_extern row = ok_or row extern_not_found
 
 unfoldable pub find_call : List ℕ → Instruction → Outcome ExternCall
 find_call externs x = do
   row ← found_extern (lookup_extern externs x.first_name)
   Ok (call_of (extern_at externs row) x)
-
-abbrev pub found_call : Outcome ExternCall → Outcome ExternCall
-found_call (Ok call) = Ok call
-found_call (Err extern_not_found) = Err extern_not_found
 
 -- "parameters plus one for a return kind"
 unfoldable pub expected_count : ExternCall → ℕ
@@ -85,11 +81,6 @@ is_resolved (Err e) = false
 unfoldable pub all_resolve : List ℕ → List ℕ → List ℕ → ExternCall → Bool
 all_resolve regions parameters arguments call =
     every (λ i. is_resolved (resolution_at regions parameters arguments call i)) call.argument_count
-
--- the answer's cases: the CALL, or the refusal's number
-abbrev pub call_answer : Outcome ExternCall → Outcome ExternCall
-call_answer (Ok call) = Ok call
-call_answer (Err number) = Err number
 
 -- "a call: 6, 7, 8 (number only)"
 unfoldable pub resolves_call : List ℕ → List ℕ → List ℕ → List ℕ → Instruction → Outcome ExternCall

@@ -1,7 +1,7 @@
 // A CALL's arguments, each with its place in the extern's signature.
 // Translated from quil-rs, instruction/extern_call.rs (Apache-2.0), and changed: see NOTICE.
 ghost use Rattle.std.specs.Prelude.{◌≡◌, ◌+◌, ◌^◌, ◌<◌};
-ghost use Rattle.extern_call.specs.Call.{found_call, find_call, expected_count, place_of, of_return, of_parameter, resolution_at, Paired, Counted, all_resolve, CallRanges, call_answer, resolves_call};
+ghost use Rattle.extern_call.specs.Call.{find_call, expected_count, place_of, of_return, of_parameter, resolution_at, Paired, Counted, all_resolve, CallRanges, resolves_call};
 
 use call_argument::error::{CallArgumentError, CallArgumentResolutionError};
 use call_argument::resolve::{resolve_argument, resolve_return};
@@ -30,11 +30,9 @@ pub enum Place {
 
 // The CALL of an instruction's row, with the signature of its extern.
 pub fn find_call(externs: &[u64], x: Instruction) -> Result<ExternCall, Refusal>
-    ensures { found_call result ≡ find_call externs.now x }
+    ensures { result ≡ find_call externs.now x }
 {
-    let Some(row) = lookup_extern(externs, x.first_name) else {
-        return Err(Refusal::ExternNotFound);
-    };
+    let row = lookup_extern(externs, x.first_name).ok_or(Refusal::ExternNotFound)?;
     let signature = extern_at(externs, row);
     Ok(ExternCall {
         return_kind: signature.return_kind,
@@ -74,10 +72,7 @@ fn of_return(
 ) -> Result<ResolvedCallArgument, CallArgumentError>
     ensures { result ≡ of_return r }
 {
-    match r {
-        Ok(a) => Ok(a),
-        Err(error) => Err(CallArgumentError::Return(error)),
-    }
+    r.map_err(CallArgumentError::Return)
 }
 
 fn of_parameter(
@@ -86,10 +81,7 @@ fn of_parameter(
 ) -> Result<ResolvedCallArgument, CallArgumentError>
     ensures { result ≡ of_parameter index r }
 {
-    match r {
-        Ok(a) => Ok(a),
-        Err(error) => Err(CallArgumentError::Argument { index, error }),
-    }
+    r.map_err(|error| CallArgumentError::Argument { index, error })
 }
 
 // Argument i of the CALL, resolved as the return or with its parameter.
@@ -140,11 +132,9 @@ pub fn resolves(
     x: Instruction,
 ) -> Result<ExternCall, Refusal>
     requires { CallRanges externs.now parameters.now arguments.now x }
-    ensures { call_answer result ≡ resolves_call regions.now externs.now parameters.now arguments.now x }
+    ensures { result ≡ resolves_call regions.now externs.now parameters.now arguments.now x }
 {
-    let Ok(call) = find_call(externs, x) else {
-        return Err(Refusal::ExternNotFound);
-    };
+    let call = find_call(externs, x)?;
     if call.argument_count != expected_count(call) {
         return Err(Refusal::ArgumentCount);
     }

@@ -19,11 +19,21 @@ pub const ERROR_WIDTH: usize = 7;
 
 pub const RESOLVED_WIDTH: usize = 5;
 
-#[derive(Drop)]
-pub enum ResolveAnswer {
-    Refused(u64),
+// Why a CALL has no resolved rows: a refusal; or 8, with how many errors' rows were written.
+#[derive(Clone, Copy, PartialEq, Eq, Debug)]
+pub enum ResolveError {
+    Refused(Refusal),
     Errors(usize),
-    Resolved(usize),
+}
+
+impl From<Refusal> for ResolveError {
+    ghost use Rattle.extern_call.specs.declared.rows.ResolveError.{ResolveError};
+
+    ghost from_gives = { λ r e. e ≡ ResolveError.Refused r };
+
+    fn from(refusal: Refusal) -> Self {
+        ResolveError::Refused(refusal)
+    }
 }
 
 // Stores the words from `at` on.
@@ -125,21 +135,19 @@ pub fn resolve_call(
     arguments: &[u64],
     x: Instruction,
     rows: &mut [u64],
-) -> ResolveAnswer
+) -> Result<usize, ResolveError>
     requires { CallRanges externs.now parameters.now arguments.now x }
     ensures { resolving result rows.new ≡ resolve_call regions.now externs.now parameters.now arguments.now x rows.old }
 {
-    let Ok(call) = find_call(externs, x) else {
-        return ResolveAnswer::Refused(Refusal::ExternNotFound);
-    };
+    let call = find_call(externs, x)?;
     if call.argument_count != expected_count(call) {
-        return ResolveAnswer::Refused(Refusal::ArgumentCount);
+        return Err(ResolveError::Refused(Refusal::ArgumentCount));
     }
     if rows.len() < ERROR_WIDTH * call.argument_count {
-        return ResolveAnswer::Refused(Refusal::BufferSize);
+        return Err(ResolveError::Refused(Refusal::BufferSize));
     }
     if all_resolve(regions, parameters, arguments, call) {
-        return ResolveAnswer::Resolved(write_resolved(regions, parameters, arguments, call, rows));
+        return Ok(write_resolved(regions, parameters, arguments, call, rows));
     }
-    ResolveAnswer::Errors(write_errors(regions, parameters, arguments, call, rows))
+    Err(ResolveError::Errors(write_errors(regions, parameters, arguments, call, rows)))
 }
