@@ -1,14 +1,6 @@
 -- Laws of chains: how they grow row by row, and what a walk along one says of the rows. Assumes nothing.
-use Prim.Native.Nat.{ℕ, ◌+◌, ◌<◌, ◌≤◌}
-use mathlib.Core.Bool.{true, false}
-use mathlib.Core.List.{List}
-use mathlib.Core.Path.{◌≡◌, refl, sym, ap, subst, ◌∙◌}
-use native.Mathlib.Omega.{arith}
+use Rattle.std.proofs.Common.{Bool, ℕ, ◌+◌, ◌<◌, ◌≤◌, true, false, List, ◌≡◌, refl, sym, ap, subst, ◌∙◌, arith, ltb-true, lt-ltb, le-ltb, eqb-true, eq-eqb, ne_eqb, ltb, get_or, set, length, length-set, get_or-set_same, get_or-set_other}
 use native.Mathlib.Decide.{ℕ_discrete}
-use borrow.Author.Tests.{ltb-true, lt-ltb, le-ltb, eqb-true, eq-eqb, ne_eqb}
-use lib.Dec.{ltb}
-use lib.ListN.{get_or, set, length, length-set}
-use lib.Seq.{get_or-set_same, get_or-set_other}
 use Rattle.tables.specs.Rows.{instruction_limit, instruction_at}
 use Rattle.tables.proofs.FirstLaws.{never}
 use Rattle.tables.proofs.Passed.{both, and_false}
@@ -47,6 +39,10 @@ module _ {instructions : List ℕ} {n bucket k : ℕ} where
   -- it is so among any number of rows that has it
   still_chained : {m : ℕ} → ChainedRow instructions m bucket k → k < n → chained instructions n bucket k ≡ true
   still_chained r h = row_chained (record { below = h; is_one = r.is_one; here = r.here })
+
+-- a word that was tested is among the rows
+pub chained-below : {r : Bool} (instructions : List ℕ) (n bucket k : ℕ) → r ≡ chained instructions n bucket k → r ≡ true → k < n
+chained-below instructions n bucket k e t = (chained-row (sym e ∙ t)).below
 
 module _ (instructions : List ℕ) (label n : ℕ) where
   -- a row more that has not the label

@@ -1,17 +1,11 @@
 -- Laws of labels: what a search for a label's row says of the rows, and where a label's row is. Assumes nothing.
-use Prim.Native.Nat.{ℕ, zero, suc, ◌+◌, ◌-◌, ◌<◌, ◌≤◌}
-use mathlib.Core.Bool.{Bool, true, false, not, cond, ◌&&◌, ◌||◌}
-use mathlib.Core.List.{List}
-use mathlib.Core.Path.{◌≡◌, refl, sym, ap, ◌∙◌}
-use native.Mathlib.Omega.{arith}
+use Rattle.std.proofs.Common.{ℕ, zero, suc, ◌+◌, ◌-◌, ◌<◌, ◌≤◌, Bool, true, false, not, cond, ◌&&◌, ◌||◌, List, ◌≡◌, refl, sym, ap, ◌∙◌, arith, eqb, eqb-true}
 use native.Mathlib.Decide.{ℕ_discrete}
-use lib.Dec.{eqb}
-use borrow.Author.Tests.{eqb-true, eq-eqb, ne_eqb}
 use Rattle.tables.specs.First.{first, every}
 use Rattle.tables.specs.Rows.{instruction_rows, instruction_at}
 use Rattle.tables.specs.declared.rows.Instruction.{Instruction}
-use Rattle.tables.proofs.FirstLaws.{never, every-row, every-all}
-use Rattle.tables.proofs.Passed.{both, and_false}
+use Rattle.tables.proofs.FirstLaws.{never, first-none, every-row, every-all}
+use Rattle.tables.proofs.Passed.{both}
 use Rattle.labels.specs.Labels.{is_label, is_jump, label_at, has_label, label_row, labelled, new_label, has_target, labels_distinct, targets_present, unlabelled, labels_fit}
 
 -- ---- a search by any test
@@ -21,16 +15,10 @@ abbrev some_from : (ℕ → Bool) → ℕ → ℕ → Bool
 some_from test i n = first test (λ k. true) false i n
 
 module _ {A : Type 0} (test : ℕ → Bool) (value : ℕ → A) (other : A) where
-  -- no row passes
-  first-none : (n i : ℕ) → ((k : ℕ) → i ≤ k → k < i + n → test k ≡ false) → first test value other i n ≡ other
-  unfolding first
-  first-none zero i none = refl
-  first-none (suc n) i none = rw (none i (omega arith) (omega arith)) (first-none n (i + 1) (λ k l h. none k (omega arith) (omega arith)))
-
   -- the last d rows do not pass
   first_cut : (d n i : ℕ) → ((k : ℕ) → i + n ≤ k → k < i + n + d → test k ≡ false) → first test value other i (n + d) ≡ first test value other i n
   unfolding first
-  first_cut d zero i none = let e : 0 + d ≡ d = omega arith in rw e (first-none d i (λ k l h. none k (omega arith) (omega arith)))
+  first_cut d zero i none = let e : 0 + d ≡ d = omega arith in rw e (first-none test value other d i (λ k l h. none k (omega arith) (omega arith)))
   first_cut d (suc n) i none =
       let e : suc n + d ≡ suc (n + d) = omega arith in
       rw e (ap (cond (test i) (value i)) (first_cut d n (i + 1) (λ k l h. none k (omega arith) (omega arith))))
@@ -144,22 +132,6 @@ module _ (instructions : List ℕ) (fit : labels_fit instructions ≡ true) (k :
   -- which is the LABEL of it
   pub target-labelled : has_label instructions (label_at instructions k) (label_row instructions (label_at instructions k)) ≡ true
   target-labelled = target.passes
-
--- ---- a row's label, as it is looked at; x is row k
-
-module _ (instructions : List ℕ) (label k : ℕ) {x : Instruction} (is : x ≡ instruction_at instructions k) where
-  row_has : (is_label x && eqb x.second_name label) ≡ has_label instructions label k
-  row_has = ap (λ (y : Instruction). is_label y && eqb y.second_name label) is
-
-  pub other-label : (x.second_name ≡ label → ⊥) → false ≡ has_label instructions label k
-  other-label ne = sym (and_false (is_label x)) ∙ ap (λ (t : Bool). is_label x && t) (sym (ne_eqb x.second_name label ne)) ∙ row_has
-
-  pub same_label : x.second_name ≡ label → is_label x ≡ has_label instructions label k
-  same_label e = at (is_label x) ∙ ap (λ (t : Bool). is_label x && t) (sym (eq-eqb x.second_name label e)) ∙ row_has
-    where
-      at : (t : Bool) → t ≡ (t && true)
-      at true = refl
-      at false = refl
 
 -- ---- a program without labels and jumps
 

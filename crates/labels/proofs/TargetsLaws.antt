@@ -1,12 +1,6 @@
 -- Laws of kept targets: how they grow row by row. Assumes nothing.
-use Prim.Native.Nat.{ℕ, ◌+◌, ◌<◌, ◌≤◌}
-use mathlib.Core.Bool.{true, false}
-use mathlib.Core.List.{List}
-use mathlib.Core.Path.{◌≡◌, refl, sym, ap, subst, ◌∙◌}
-use native.Mathlib.Omega.{arith}
+use Rattle.std.proofs.Common.{ℕ, ◌+◌, ◌<◌, ◌≤◌, true, false, List, ◌≡◌, sym, ap, ◌∙◌, arith, get_or, set, length, length-set, get_or-set_same, get_or-set_other}
 use native.Mathlib.Decide.{ℕ_discrete}
-use lib.ListN.{get_or, set, length, length-set}
-use lib.Seq.{get_or-set_same, get_or-set_other}
 use Rattle.tables.specs.Rows.{instruction_rows, instruction_at}
 use Rattle.tables.proofs.FirstLaws.{never}
 use Rattle.labels.specs.Labels.{is_jump, label_at, label_row, unlabelled}
@@ -23,10 +17,6 @@ module _ (instructions targets : List ℕ) (room : instruction_rows instructions
   targets_none e = record { room = room; each = λ k h jump. never (sym (no_jump instructions e k h) ∙ jump) }
 
 module _ (instructions targets : List ℕ) (n : ℕ) (s : Targets instructions targets n) where
-  -- where no row is left, all
-  pub targets_all : instruction_rows instructions ≤ n → Targets instructions targets (instruction_rows instructions)
-  targets_all b = record { room = s.room; each = λ k h jump. s.each k (omega arith) jump }
-
   -- a row more that is no jump
   pub targets_skip : is_jump (instruction_at instructions n) ≡ false → Targets instructions targets (n + 1)
   targets_skip e = record { room = s.room; each = λ k h jump. at k h jump (ℕ_discrete k n) }

@@ -22,10 +22,7 @@ pub fn has_label(instructions: &[u64], row: usize, label: u64) -> bool
     ensures { result ≡ has_label instructions.now label row }
 {
     let x = instruction_at(instructions, row);
-    if x.second_name != label {
-        return false;
-    }
-    x.family == LABEL
+    x.second_name == label && x.family == LABEL
 }
 
 // Whether a word that was read for a row is one of the first n rows and in that bucket's chain.
@@ -54,13 +51,13 @@ pub fn labelled_row(
 {
     let b = bucket(label);
     let mut before = n;
-    let mut row = heads[b] as usize;
+    let mut row = usize::from(heads[b]);
     while is_chained(instructions, before, b, row) {
         if has_label(instructions, row, label) {
             return row;
         }
         before = row;
-        row = links[row] as usize;
+        row = usize::from(links[row]);
     }
     n
 }

@@ -17,14 +17,9 @@ pub fn label_row(instructions: &[u64], label: u64) -> usize
     ensures { result ≡ label_row instructions.now label }
 {
     let rows = instructions.len() / INSTRUCTION_WIDTH;
-    let mut row = 0;
-    while row < rows {
-        if has_label(instructions, row, label) {
-            return row;
-        }
-        row += 1;
-    }
-    rows
+    (0..rows)
+        .find(|row| has_label(instructions, *row, label))
+        .unwrap_or(rows)
 }
 
 // Whether a row brings no label twice; a LABEL row that does not is chained.
@@ -51,12 +46,10 @@ fn chain_labels(instructions: &[u64], heads: &mut [u16], links: &mut [u16]) -> b
     ensures chains { result ≡ true → Chains instructions.now heads.new links.new (instruction_rows instructions.now) }
 {
     let rows = instructions.len() / INSTRUCTION_WIDTH;
-    let mut row = 0;
-    while row < rows {
+    for row in 0..rows {
         if !chain_row(instructions, heads, links, row) {
             return false;
         }
-        row += 1;
     }
     true
 }
@@ -99,12 +92,10 @@ fn keep_targets(instructions: &[u64], heads: &[u16], links: &[u16], targets: &mu
     ensures targets { result ≡ true → Targets instructions.now targets.new (instruction_rows instructions.now) }
 {
     let rows = instructions.len() / INSTRUCTION_WIDTH;
-    let mut row = 0;
-    while row < rows {
+    for row in 0..rows {
         if !keep_target(instructions, heads, links, targets, row) {
             return false;
         }
-        row += 1;
     }
     true
 }
@@ -114,15 +105,10 @@ fn is_unlabelled(instructions: &[u64]) -> bool
     ensures { result ≡ unlabelled instructions.now }
 {
     let rows = instructions.len() / INSTRUCTION_WIDTH;
-    let mut row = 0;
-    while row < rows {
+    (0..rows).all(|row| {
         let x = instruction_at(instructions, row);
-        if (x.family == family::LABEL) | is_jump(x) {
-            return false;
-        }
-        row += 1;
-    }
-    true
+        !((x.family == family::LABEL) | is_jump(x))
+    })
 }
 
 // With room for the chains.
@@ -132,10 +118,8 @@ fn chains_fit(instructions: &[u64], targets: &mut [u16]) -> bool
 {
     let mut heads = [NO_ROW; BUCKETS as usize];
     let mut links = [NO_ROW; INSTRUCTION_LIMIT];
-    if !chain_labels(instructions, &mut heads, &mut links) {
-        return false;
-    }
-    keep_targets(instructions, &heads, &links, targets)
+    chain_labels(instructions, &mut heads, &mut links)
+        && keep_targets(instructions, &heads, &links, targets)
 }
 
 // Whether every label is on one row and every target has its row; these are kept. A program that has neither takes no room for chains.
@@ -143,10 +127,7 @@ pub fn find_targets(instructions: &[u64], targets: &mut [u16]) -> bool
     requires { (instruction_rows instructions.now ≤ instruction_limit) × (instruction_rows instructions.now ≤ length targets.old) }
     ensures { LabelsKnown instructions.now result targets.new }
 {
-    if is_unlabelled(instructions) {
-        return true;
-    }
-    chains_fit(instructions, targets)
+    is_unlabelled(instructions) || chains_fit(instructions, targets)
 }
 
 // The same where no step is taken.

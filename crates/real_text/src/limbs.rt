@@ -1,125 +1,55 @@
-// Four large numbers in one array, 40 limbs of 32 bits each, the lowest first: room for every binary64 times the powers of ten that its text takes.
+// Large numbers: 40 limbs of 32 bits each, room for every binary64 times the powers of ten that its text takes.
 const LIMBS: usize = 40;
-
-pub const WORK: usize = 160;
-
-// Where each of the four begins: value and scale are the fraction that is written out; above and below are how far the neighbours' halfway points lie.
-pub const VALUE: usize = 0;
-
-pub const SCALE: usize = 40;
-
-pub const ABOVE: usize = 80;
-
-pub const BELOW: usize = 120;
 
 const BASE: u64 = 0x1_0000_0000;
 
-// How two numbers compare.
-#[derive(Drop)]
-pub enum Order {
-    Less,
-    Equal,
-    Greater,
+// The highest limb first, so that numbers compare as their limbs do.
+#[derive(Clone, Copy, PartialEq, Eq, PartialOrd, Ord)]
+pub struct Large {
+    limbs: [u32; LIMBS],
 }
 
-impl Order {
-    pub fn is_less(self, or_equal: bool) -> bool {
-        match self {
-            Order::Less => true,
-            Order::Equal => or_equal,
-            Order::Greater => false,
+impl Large {
+    // The word, below 2^54, times 2^shift.
+    pub fn shifted(word: u64, shift: u64) -> Large {
+        let low = (word % BASE) << (shift % 32);
+        let high = (word / BASE) << (shift % 32);
+        let parts = [low, low / BASE | high, high / BASE];
+        let mut limbs = [0; LIMBS];
+        let places = limbs.iter_mut().rev().skip((shift / 32) as usize);
+        for (limb, part) in places.zip(parts.iter()) {
+            *limb = (*part % BASE) as u32;
+        }
+        Large { limbs }
+    }
+
+    pub fn times_ten(&mut self) {
+        let mut carry = 0;
+        for limb in self.limbs.iter_mut().rev() {
+            let (product, next) = limb.carrying_mul(10, carry);
+            *limb = product;
+            carry = next;
         }
     }
 
-    pub fn is_greater(self, or_equal: bool) -> bool {
-        match self {
-            Order::Less => false,
-            Order::Equal => or_equal,
-            Order::Greater => true,
+    pub fn plus(&self, other: &Large) -> Large {
+        let mut limbs = self.limbs;
+        let mut carry = false;
+        for (limb, added) in limbs.iter_mut().rev().zip(other.limbs.iter().rev()) {
+            let (sum, next) = limb.carrying_add(*added, carry);
+            *limb = sum;
+            carry = next;
+        }
+        Large { limbs }
+    }
+
+    // The other, which is not above it, taken away.
+    pub fn subtract(&mut self, other: &Large) {
+        let mut borrow = false;
+        for (limb, taken) in self.limbs.iter_mut().rev().zip(other.limbs.iter().rev()) {
+            let (difference, next) = limb.borrowing_sub(*taken, borrow);
+            *limb = difference;
+            borrow = next;
         }
     }
-}
-
-fn limb(work: &[u64; WORK], first: usize, i: usize) -> u64 {
-    let place = std::num::wrapping_add_usize(first, i);
-    if place < WORK { work[place] % BASE } else { 0 }
-}
-
-fn set_limb(work: &mut [u64; WORK], first: usize, i: usize, word: u64) {
-    let place = std::num::wrapping_add_usize(first, i);
-    if place < WORK {
-        work[place] = word % BASE;
-    }
-}
-
-// The number at `first`, which is 0, becomes the word, below 2^54, times 2^shift.
-pub fn place(work: &mut [u64; WORK], first: usize, word: u64, shift: u64) {
-    let i = std::num::wrapping_add_usize(first, (shift / 32) as usize);
-    let part = shift % 32;
-    let low = (word % BASE) << part;
-    let high = ((word / BASE) % 0x40_0000) << part;
-    set_limb(work, i, 0, low);
-    set_limb(work, i, 1, low / BASE + high % BASE);
-    set_limb(work, i, 2, high / BASE);
-}
-
-// Ten times the number at `first`.
-pub fn times_ten(work: &mut [u64; WORK], first: usize) {
-    let mut carry = 0;
-    let mut i = 0;
-    while i < LIMBS {
-        let product = limb(work, first, i) % BASE * 10 + carry % 16;
-        set_limb(work, first, i, product);
-        carry = product / BASE;
-        i += 1;
-    }
-}
-
-// The scale taken from the value, which is not below it.
-pub fn subtract_scale(work: &mut [u64; WORK]) {
-    let mut borrow = 0;
-    let mut i = 0;
-    while i < LIMBS {
-        let from = limb(work, VALUE, i) % BASE + BASE;
-        let difference = from - limb(work, SCALE, i) % BASE - borrow % 2;
-        set_limb(work, VALUE, i, difference);
-        borrow = if difference < BASE { 1 } else { 0 };
-        i += 1;
-    }
-}
-
-// What a lower limb said stands where the limbs are equal.
-fn compare_limbs(a: u64, b: u64, lower: Order) -> Order {
-    if a < b {
-        return Order::Less;
-    }
-    if b < a {
-        return Order::Greater;
-    }
-    lower
-}
-
-// How the value plus the number at `first` compares with the scale.
-pub fn compare_sum(work: &[u64; WORK], first: usize) -> Order {
-    let mut told = Order::Equal;
-    let mut carry = 0;
-    let mut i = 0;
-    while i < LIMBS {
-        let sum = limb(work, VALUE, i) % BASE + limb(work, first, i) % BASE + carry % 2;
-        told = compare_limbs(sum % BASE, limb(work, SCALE, i), told);
-        carry = sum / BASE;
-        i += 1;
-    }
-    told
-}
-
-// How the value compares with the number at `first`.
-pub fn compare(work: &[u64; WORK], first: usize) -> Order {
-    let mut told = Order::Equal;
-    let mut i = 0;
-    while i < LIMBS {
-        told = compare_limbs(limb(work, VALUE, i), limb(work, first, i), told);
-        i += 1;
-    }
-    told
 }

@@ -1,5 +1,5 @@
 // A REAL word as text: the shortest decimal that reads back to the same word, as Python writes it; infinities and NaN by name.
-use crate::digits::{Decimal, MOST_DIGITS, POINT, decimal_of};
+use crate::digits::{Decimal, POINT, decimal_of};
 
 const TEXT: usize = 32;
 
@@ -30,51 +30,26 @@ impl Text {
 }
 
 // A digit by its place, as `Decimal` tells the point's.
-fn digit(decimal: Decimal, place: usize) -> u8 {
-    let digits = decimal.digits;
-    if place < POINT {
-        return b'0';
-    }
-    let i = place - POINT;
-    if i >= decimal.count {
-        return b'0';
-    }
-    if i < MOST_DIGITS {
-        digits[i] % 10 + b'0'
-    } else {
-        b'0'
-    }
+fn digit(decimal: &Decimal, place: usize) -> u8 {
+    let i = place.checked_sub(POINT);
+    let digit = i.and_then(|i| decimal.digits.get(i).copied());
+    digit.unwrap_or(0) % 10 + b'0'
 }
 
 // The digits of the places from `first` up to `end`.
-fn run(decimal: Decimal, first: usize, end: usize, text: Text) -> Text {
-    let mut made = text;
-    let mut place = first;
-    while place < end {
-        made = made.with(digit(decimal, place));
-        place += 1;
-    }
-    made
+fn run(decimal: &Decimal, first: usize, end: usize, text: Text) -> Text {
+    (first..end).fold(text, |made, place| made.with(digit(decimal, place)))
 }
 
-fn larger(a: usize, b: usize) -> usize {
-    if a < b { b } else { a }
-}
-
-fn positional(decimal: Decimal, text: Text) -> Text {
+fn positional(decimal: &Decimal, text: Text) -> Text {
     let point = decimal.point;
-    let last = decimal.count % 64 + POINT;
     let whole = if point > POINT {
         run(decimal, POINT, point, text)
     } else {
         text.with(b'0')
     };
-    run(
-        decimal,
-        point,
-        larger(last, std::num::wrapping_add_usize(point, 1)),
-        whole.with(b'.'),
-    )
+    let end = (decimal.count + POINT).max(point + 1);
+    run(decimal, point, end, whole.with(b'.'))
 }
 
 // At least two digits.
@@ -90,11 +65,10 @@ fn exponent(size: usize, text: Text) -> Text {
         .with((n % 10) as u8 + b'0')
 }
 
-fn scientific(decimal: Decimal, text: Text) -> Text {
-    let last = decimal.count % 64 + POINT;
+fn scientific(decimal: &Decimal, text: Text) -> Text {
     let first = run(decimal, POINT, POINT + 1, text);
-    let all = if last > POINT + 1 {
-        run(decimal, POINT + 1, last, first.with(b'.'))
+    let all = if decimal.count > 1 {
+        run(decimal, POINT + 1, POINT + decimal.count, first.with(b'.'))
     } else {
         first
     };
@@ -109,15 +83,14 @@ fn scientific(decimal: Decimal, text: Text) -> Text {
 // The text of a positive finite pattern, after a sign.
 fn size_text(bits: u64, text: Text) -> Text {
     let decimal = decimal_of(bits);
-    let point = decimal.point;
-    if (point > POINT - 4) & (point <= POINT + 16) {
-        return positional(decimal, text);
+    if (POINT - 3..=POINT + 16).contains(&decimal.point) {
+        return positional(&decimal, text);
     }
-    scientific(decimal, text)
+    scientific(&decimal, text)
 }
 
-fn named(name: [u8; 3], text: Text) -> Text {
-    text.with(name[0]).with(name[1]).with(name[2])
+fn named(name: &[u8], text: Text) -> Text {
+    name.iter().fold(text, |made, byte| made.with(*byte))
 }
 
 pub fn text_of(bits: u64) -> Text {
@@ -127,14 +100,14 @@ pub fn text_of(bits: u64) -> Text {
     };
     let size = bits % SIGN;
     if size > INFINITY {
-        return named(*b"nan", none);
+        return named(b"nan", none);
     }
     let signed = if bits < SIGN { none } else { none.with(b'-') };
     if size == INFINITY {
-        return named(*b"inf", signed);
+        return named(b"inf", signed);
     }
     if size == 0 {
-        return named(*b"0.0", signed);
+        return named(b"0.0", signed);
     }
     size_text(size, signed)
 }

@@ -6,6 +6,7 @@ mod explain;
 mod keys;
 mod run;
 mod steps;
+mod terminal;
 
 fn main(rt: HostRuntime) {
     run::run(&rt, &rt.stdout(), &rt.stdin());

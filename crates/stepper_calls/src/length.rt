@@ -10,14 +10,7 @@ use tables::rows::{INSTRUCTION_WIDTH, instruction_at};
 
 fn has_jump(instructions: &[u64]) -> bool {
     let rows = instructions.len() / INSTRUCTION_WIDTH;
-    let mut row = 0;
-    while row < rows {
-        if is_jump(instruction_at(instructions, row)) {
-            return true;
-        }
-        row += 1;
-    }
-    false
+    (0..rows).any(|row| is_jump(instruction_at(instructions, row)))
 }
 
 // The rows' sum is enough where none of them is a jump.

@@ -2,7 +2,7 @@
 use crate::frame_row;
 use console::frame::FrameAnswer;
 use stepper_desk::current::{Current, row_at};
-use stepper_lines::print::{number, text};
+use stepper_lines::print::{counted, number, text};
 use stepper_tables::file::TABLES;
 use stepper_tables::held::table;
 use stepper_words::heading::Table;
@@ -11,12 +11,8 @@ fn looked(count: u64, nodes: u64) {
     text(b"  the type check looked at ");
     number(count);
     text(b" of ");
-    number(nodes);
-    if nodes == 1 {
-        text(b" node\n");
-    } else {
-        text(b" nodes\n");
-    }
+    counted(nodes, b"node");
+    text(b"\n");
 }
 
 // A line, where the row is a frame of tables that the loader takes; else nothing.
@@ -25,10 +21,8 @@ pub fn looked_line(tables: &[u64], lengths: [usize; TABLES], row: usize) {
     let Current::Row(x) = current else {
         return;
     };
-    let answer = frame_row(tables, lengths, row);
-    match answer {
-        FrameAnswer::Accepted(count) => looked(count, x.first_index),
-        FrameAnswer::Error(_, count) => looked(count, x.first_index),
+    match frame_row(tables, lengths, row) {
+        FrameAnswer::Accepted(count) | FrameAnswer::Error(_, count) => looked(count, x.first_index),
         FrameAnswer::Refused(_) => {}
     }
 }

@@ -1,6 +1,5 @@
 // A step or a run of the desk's session.
 use crate::{run_steps, step_back, step_forward};
-use script::line::least;
 use stepper_desk::key::is_open;
 use stepper_desk::state::Desk;
 use stepper_tables::file::TABLE_WORDS;
@@ -14,14 +13,14 @@ pub fn forward_with(
     journal: &mut [u64],
     reply: &[u64],
 ) -> Desk {
-    let words = least(desk.memory, memory.len());
-    let entries = least(desk.journal, journal.len());
+    let words = desk.memory.min(memory.len());
+    let entries = desk.journal.min(journal.len());
     let lengths = desk.lengths;
     let answer = step_forward(
         tables,
         lengths,
-        &mut memory[0..words],
-        &mut journal[0..entries],
+        &mut memory[..words],
+        &mut journal[..entries],
         desk.position,
         reply,
     );
@@ -35,8 +34,8 @@ pub fn run_key(
     journal: &mut [u64],
     allowance: u64,
 ) -> Desk {
-    let words = least(desk.memory, memory.len());
-    let entries = least(desk.journal, journal.len());
+    let words = desk.memory.min(memory.len());
+    let entries = desk.journal.min(journal.len());
     if !is_open(desk) {
         return desk;
     }
@@ -44,8 +43,8 @@ pub fn run_key(
     let answer = run_steps(
         tables,
         lengths,
-        &mut memory[0..words],
-        &mut journal[0..entries],
+        &mut memory[..words],
+        &mut journal[..entries],
         desk.position,
         allowance,
     );
@@ -53,8 +52,8 @@ pub fn run_key(
 }
 
 pub fn back_key(tables: &[u64], desk: Desk, memory: &mut [u64], journal: &[u64]) -> Desk {
-    let words = least(desk.memory, memory.len());
-    let entries = least(desk.journal, journal.len());
+    let words = desk.memory.min(memory.len());
+    let entries = desk.journal.min(journal.len());
     if !is_open(desk) {
         return desk;
     }
@@ -62,8 +61,8 @@ pub fn back_key(tables: &[u64], desk: Desk, memory: &mut [u64], journal: &[u64])
     let answer = step_back(
         tables,
         lengths,
-        &mut memory[0..words],
-        &journal[0..entries],
+        &mut memory[..words],
+        &journal[..entries],
         desk.position,
     );
     desk.placed(stepped(answer, desk.view))

@@ -4,7 +4,7 @@ use operands::address::region_origin;
 use tables::cells::{Cells, cell_count};
 use tables::rows::{REGION_WIDTH, region_at};
 
-#[derive(Clone, Copy)]
+#[derive(Clone, Copy, PartialEq, Eq)]
 pub struct Cell {
     pub kind: u64,
     pub word: u64,
@@ -17,20 +17,23 @@ pub struct Span {
     pub count: u64,
 }
 
+impl Span {
+    pub const EMPTY: Span = Span { first: 0, count: 0 };
+}
+
 // Where a region's cells lie; none, where the regions have too many.
 pub fn cells_of(regions: &[u64], r: usize) -> Span {
-    let Cells::Count(cells) = cell_count(regions) else {
-        return Span { first: 0, count: 0 };
+    let Cells::Count(_) = cell_count(regions) else {
+        return Span::EMPTY;
     };
     if r < regions.len() / REGION_WIDTH {
-        let first = region_origin(regions, r);
         let region = region_at(regions, r);
         return Span {
-            first,
+            first: region_origin(regions, r),
             count: region.length,
         };
     }
-    Span { first: 0, count: 0 }
+    Span::EMPTY
 }
 
 // What a cell holds; past the memory's end 0 and 0.

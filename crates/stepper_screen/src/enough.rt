@@ -21,8 +21,7 @@ fn no_length() {
 pub fn beside_used(enough: Enough) {
     match enough {
         Enough::Entries(entries) => suffice(entries),
-        Enough::TooMany(_) => no_length(),
-        Enough::Jumps => no_length(),
+        Enough::TooMany(_) | Enough::Jumps => no_length(),
         Enough::Untold => {}
     }
 }

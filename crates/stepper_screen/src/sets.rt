@@ -10,8 +10,7 @@ pub const SET_WORDS: usize = 1024;
 
 fn set(line: Line, source: &[u8], names: &[u64; NAME_WORDS], list: &[u64], count: usize) -> Line {
     let mut made = line;
-    let mut i = 0;
-    while i < count {
+    for i in 0..count {
         if !made.fits() {
             break;
         }
@@ -19,7 +18,6 @@ fn set(line: Line, source: &[u8], names: &[u64; NAME_WORDS], list: &[u64], count
             .with(b' ')
             .name(source, names, word_of(list, i))
             .whole();
-        i += 1;
     }
     made
 }
@@ -69,8 +67,7 @@ pub fn walked(
     end: usize,
 ) -> Walk {
     let line = walk.line;
-    let next = stepped.found;
-    match next {
+    match stepped.found {
         Next::Reference(found) => {
             let told = line
                 .with(b' ')

@@ -11,31 +11,22 @@ use stepper_words::heading::{HEADINGS, Table};
 use stepper_words::list::item;
 use stepper_words::names::NAME_WORDS;
 
-// What follows the word before `next`: the line's end after a row's last word and after the table's.
-fn separator(next: usize, count: usize, width: usize) -> u8
-    requires { 0 < width }
-{
-    if (next == count) | (next % width == 0) {
-        b'\n'
-    } else {
-        b' '
-    }
-}
-
 fn rows(words: &[u64], width: usize)
     requires { 0 < width }
 {
-    let mut i = 0;
-    while i < words.len() {
-        number(words[i]);
-        i += 1;
-        byte(separator(i, words.len(), width));
+    for row in words.chunks(width) {
+        for (i, &word) in row.iter().enumerate() {
+            if i > 0 {
+                byte(b' ');
+            }
+            number(word);
+        }
+        byte(b'\n');
     }
 }
 
 fn table_rows(tables: &[u64; TABLE_WORDS], which: Table, lengths: [usize; TABLES]) {
-    let headings = HEADINGS;
-    text(item(&headings, which.number() as u64));
+    text(item(&HEADINGS, which.number() as u64));
     byte(b'\n');
     rows(table(tables, which, lengths), which.width());
 }
@@ -62,11 +53,15 @@ pub fn table_words(rt: &(impl Env + Files), desk: Desk) {
     );
     let lengths = loaded.lengths;
     if loaded.has_file() {
-        table_rows(&tables, Table::Regions, lengths);
-        table_rows(&tables, Table::Externs, lengths);
-        table_rows(&tables, Table::Parameters, lengths);
-        table_rows(&tables, Table::Nodes, lengths);
-        table_rows(&tables, Table::Arguments, lengths);
-        table_rows(&tables, Table::Instructions, lengths);
+        for which in [
+            Table::Regions,
+            Table::Externs,
+            Table::Parameters,
+            Table::Nodes,
+            Table::Arguments,
+            Table::Instructions,
+        ] {
+            table_rows(&tables, which, lengths);
+        }
     }
 }

@@ -178,13 +178,18 @@ fn error_line(
     }
 }
 
-fn error_row(source: &[u8], names: &[u64; NAME_WORDS], view: View, rows: &[u64], row: usize) {
-    if row < rows.len() / ERROR_WIDTH {
-        let at = row * ERROR_WIDTH;
-        let details = [rows[at + 3], rows[at + 4], rows[at + 5], rows[at + 6]];
-        let placed = place(Line::new(view), rows[at], rows[at + 1]);
-        error_line(placed, source, names, rows[at + 2], details);
-    }
+fn error_row(source: &[u8], names: &[u64; NAME_WORDS], view: View, row: &[u64; ERROR_WIDTH]) {
+    let &[
+        return_or_parameter,
+        index,
+        error,
+        first,
+        second,
+        third,
+        fourth,
+    ] = row;
+    let placed = place(Line::new(view), return_or_parameter, index);
+    error_line(placed, source, names, error, [first, second, third, fourth]);
 }
 
 // The error rows of a CALL, a line each.
@@ -196,10 +201,9 @@ pub fn show_errors(
     count: usize,
 ) {
     let lines = shown(view, count, LINES);
-    let mut i = 0;
-    while i < lines {
-        error_row(source, names, view, rows, i);
-        i += 1;
+    let (errors, _) = rows.as_chunks::<ERROR_WIDTH>();
+    for error in errors.iter().take(lines) {
+        error_row(source, names, view, error);
     }
     left_out(view, lines, count, b" more errors: m, then r, shows all");
 }

@@ -1,6 +1,4 @@
 // The reply to a CALL: its rows of argument, offset and value asked for.
-ghost use Rattle.std.specs.Prelude.{◌≤◌, ◌<◌};
-
 use crate::errors::RESOLVE_WORDS;
 use crate::resolved::VECTOR;
 use call_reply::reply::{REPLY_LIMIT, REPLY_WIDTH};
@@ -24,80 +22,29 @@ pub enum Reply {
     CutShort,
 }
 
-// What a line gave: a row, nothing, the reply's end, or the input's.
-#[derive(Clone, Copy)]
-enum Asked {
-    Row,
-    Nothing,
-    End,
-    CutShort,
-}
-
-impl Asked {
-    fn rows(self) -> usize
-        ensures { result ≤ 1 }
-    {
-        match self {
-            Asked::Row => 1,
-            _ => 0,
-        }
-    }
-
-    fn ends(self) -> bool {
-        match self {
-            Asked::Row => false,
-            Asked::Nothing => false,
-            Asked::End => true,
-            Asked::CutShort => true,
-        }
-    }
-}
+// Nothing says that the lines of a reply end, so no more than these are asked for.
+const LINES: usize = 10000;
 
 // An argument's kind, where the CALL has that argument.
-#[derive(Clone, Copy)]
-enum Kind {
-    Of(u64),
-    Absent,
-}
-
-impl Kind {
-    // Any kind will do for an argument that there is not: the step refuses its row.
-    fn word(self) -> u64 {
-        match self {
-            Kind::Of(k) => k,
-            Kind::Absent => 0,
-        }
-    }
-}
-
-fn kind_of(rows: &[u64], count: usize, argument: u64) -> Kind {
-    let row = argument as usize;
-    if row >= count {
-        return Kind::Absent;
-    }
-    if row >= rows.len() / RESOLVED_WIDTH {
-        return Kind::Absent;
-    }
-    let at = row * RESOLVED_WIDTH;
-    if rows[at] == VECTOR {
-        return Kind::Of(rows[at + 2]);
-    }
-    Kind::Of(rows[at + 3])
+fn kind_of(rows: &[u64], count: usize, argument: u64) -> Option<u64> {
+    let (resolved, _) = rows.as_chunks::<RESOLVED_WIDTH>();
+    let &[form, _, vector_kind, kind, _] = resolved.iter().take(count).nth(argument as usize)?;
+    Some(if form == VECTOR { vector_kind } else { kind })
 }
 
 // A REAL is a short decimal, or bits in hexadecimal; any other kind an integer.
 fn number_in(k: u64, word: &[u8]) -> Written {
-    if (k == REAL) & (byte_at(word, 1) != b'x') {
+    if k == REAL && byte_at(word, 1) != b'x' {
         return decimal(word);
     }
     integer(word)
 }
 
-// Whatever is typed for an argument that there is not, the step refuses.
-fn value_in(kind: Kind, word: &[u8]) -> Written {
-    match kind {
-        Kind::Of(k) => number_in(k, word),
-        Kind::Absent => Written::Word(0),
+// The number, or why there is none.
+fn number_of(written: Written) -> Result<u64, Fault> {
+    match written {
+        Written::Word(number) => Ok(number),
+        Written::Not(fault) => Err(fault),
     }
 }
 
@@ -116,82 +63,8 @@ fn complain(view: View, fault: Fault) {
     byte(b'\n');
 }
 
-fn put_row(
-    reply: &mut [u64; REPLY_WORDS],
-    row: usize,
-    argument: u64,
-    offset: u64,
-    k: u64,
-    word: u64,
-)
-    requires { row < 65 }
-{
-    let at = row * REPLY_WIDTH;
-    reply[at] = argument;
-    reply[at + 1] = offset;
-    reply[at + 2] = k;
-    reply[at + 3] = word;
-}
-
-fn put_value(
-    rows: &[u64],
-    count: usize,
-    argument: u64,
-    offset: u64,
-    word: &[u8],
-    reply: &mut [u64; REPLY_WORDS],
-    row: usize,
-    view: View,
-) -> Asked
-    requires { row < 65 }
-{
-    let kind = kind_of(rows, count, argument);
-    let value = value_in(kind, word);
-    match value {
-        Written::Word(number) => {
-            put_row(reply, row, argument, offset, kind.word(), number);
-            Asked::Row
-        }
-        Written::Not(fault) => {
-            complain(view, fault);
-            Asked::Nothing
-        }
-    }
-}
-
-// The offset and the value, where the argument is taken.
-fn put_offset(
-    rows: &[u64],
-    count: usize,
-    argument: u64,
-    offset: Written,
-    word: &[u8],
-    reply: &mut [u64; REPLY_WORDS],
-    row: usize,
-    view: View,
-) -> Asked
-    requires { row < 65 }
-{
-    match offset {
-        Written::Word(number) => put_value(rows, count, argument, number, word, reply, row, view),
-        Written::Not(fault) => {
-            complain(view, fault);
-            Asked::Nothing
-        }
-    }
-}
-
-// A line as a reply's row. What stands after the third word makes it no value.
-fn take_row(
-    line: &[u8],
-    rows: &[u64],
-    count: usize,
-    reply: &mut [u64; REPLY_WORDS],
-    row: usize,
-    view: View,
-) -> Asked
-    requires { row < 65 }
-{
+// A line as a reply's row. What stands after the third word makes it no value. Whatever is typed for an argument that there is not, the step refuses.
+fn row_in(line: &[u8], rows: &[u64], count: usize) -> Result<[u64; REPLY_WIDTH], Fault> {
     let first = word_at(line, 0, line.len());
     let second = word_at(line, first.end, line.len());
     let third = word_at(line, second.end, line.len());
@@ -201,16 +74,13 @@ fn take_row(
     } else {
         third.end
     };
-    let argument = integer(part(line, first.start, first.end));
-    let offset = integer(part(line, second.start, second.end));
-    let word = part(line, third.start, end);
-    match argument {
-        Written::Word(number) => put_offset(rows, count, number, offset, word, reply, row, view),
-        Written::Not(fault) => {
-            complain(view, fault);
-            Asked::Nothing
-        }
-    }
+    let argument = number_of(integer(part(line, first.start, first.end)))?;
+    let offset = number_of(integer(part(line, second.start, second.end)))?;
+    let Some(kind) = kind_of(rows, count, argument) else {
+        return Ok([argument, offset, 0, 0]);
+    };
+    let value = number_of(number_in(kind, part(line, third.start, end)))?;
+    Ok([argument, offset, kind, value])
 }
 
 fn is_empty(line: &[u8]) -> bool {
@@ -218,51 +88,35 @@ fn is_empty(line: &[u8]) -> bool {
     word.start >= word.end
 }
 
-// One more row, up to an empty line.
-fn ask_row(
-    rows: &[u64],
-    count: usize,
-    reply: &mut [u64; REPLY_WORDS],
-    row: usize,
-    view: View,
-) -> Asked
-    requires { row < 65 }
-{
-    let mut line = [0; LINE];
-    let typed = ask(b"reply: ", &mut line, view);
-    if typed.ended {
-        return Asked::CutShort;
-    }
-    let words = typed_line(&line, typed);
-    if is_empty(words) {
-        return Asked::End;
-    }
-    take_row(words, rows, count, reply, row, view)
-}
-
-// Asks for rows. After one row too many no more is asked for.
+// Asks for rows, up to an empty line. After one row too many no more is asked for.
 pub fn ask_reply(
     rows: &[u64; RESOLVE_WORDS],
     count: usize,
     reply: &mut [u64; REPLY_WORDS],
     view: View,
 ) -> Reply {
-    let mut asked = Asked::Nothing;
     let mut row = 0;
-    let mut turns: usize = 10000;
-    while turns > 0 {
-        if asked.ends() {
-            break;
-        }
+    'lines: for _ in 0..LINES {
         if row >= REPLY_ROWS {
             break;
         }
-        asked = ask_row(rows, count, reply, row, view);
-        row += asked.rows();
-        turns -= 1;
+        let mut line = [0; LINE];
+        let typed = ask(b"reply: ", &mut line, view);
+        if typed.ended {
+            return Reply::CutShort;
+        }
+        let words = typed_line(&line, typed);
+        if is_empty(words) {
+            break;
+        }
+        match row_in(words, rows, count) {
+            Ok(written) => {
+                let at = row * REPLY_WIDTH;
+                reply[at..at + REPLY_WIDTH].copy_from_slice(&written);
+                row += 1;
+            }
+            Err(fault) => complain(view, fault),
+        }
     }
-    match asked {
-        Asked::CutShort => Reply::CutShort,
-        _ => Reply::Words(row * REPLY_WIDTH),
-    }
+    Reply::Words(row * REPLY_WIDTH)
 }

@@ -15,62 +15,64 @@ const MEMORY_REFERENCE: u64 = 1;
 // Lines that are shown, unless all are.
 const LINES: usize = 10;
 
-// A row's words before the one that says whether it is mutable.
-fn resolved(line: Line, source: &[u8], names: &[u64; NAME_WORDS], words: [u64; 4]) -> Line {
-    let form = words[0];
+fn resolved(
+    line: Line,
+    source: &[u8],
+    names: &[u64; NAME_WORDS],
+    words: &[u64; RESOLVED_WIDTH],
+) -> Line {
+    let &[form, first, second, third, _] = words;
     match form {
         VECTOR => line
-            .name(source, names, words[1])
+            .name(source, names, first)
             .with(b' ')
-            .vector(words[2], words[3]),
+            .vector(second, third),
         MEMORY_REFERENCE => line
-            .reference(source, names, words[1], words[2])
+            .reference(source, names, first, second)
             .with(b' ')
-            .kind(words[3]),
-        _ => complex(line, words[1], words[2])
-            .text(b" as ")
-            .kind(words[3]),
+            .kind(third),
+        _ => complex(line, first, second).text(b" as ").kind(third),
     }
 }
 
+// The last word says whether it is mutable.
 fn resolved_line(
     line: Line,
     source: &[u8],
     names: &[u64; NAME_WORDS],
     row: usize,
-    words: [u64; 4],
-    mutable: bool,
+    words: &[u64; RESOLVED_WIDTH],
 ) -> Line {
     let numbered = line.text(b"  ").number(row as u64).text(b": ");
     let told = resolved(numbered, source, names, words).whole();
-    if mutable {
+    if words[4] == 1 {
         return told.text(b", mutable");
     }
     told
 }
 
-fn resolved_row(source: &[u8], names: &[u64; NAME_WORDS], view: View, rows: &[u64], row: usize) {
-    if row < rows.len() / RESOLVED_WIDTH {
-        let at = row * RESOLVED_WIDTH;
-        let words = [rows[at], rows[at + 1], rows[at + 2], rows[at + 3]];
-        let mutable = rows[at + 4] == 1;
-        let line = Line::new(view);
-        let whole = resolved_line(line, source, names, row, words, mutable);
-        if whole.fits() {
-            whole.end();
-        } else {
-            resolved_line(line.shortened(), source, names, row, words, mutable).end();
-        }
+fn resolved_row(
+    source: &[u8],
+    names: &[u64; NAME_WORDS],
+    view: View,
+    row: usize,
+    words: &[u64; RESOLVED_WIDTH],
+) {
+    let line = Line::new(view);
+    let whole = resolved_line(line, source, names, row, words);
+    if whole.fits() {
+        whole.end();
+    } else {
+        resolved_line(line.shortened(), source, names, row, words).end();
     }
 }
 
 // The resolved arguments, a line each.
 fn show_resolved(source: &[u8], names: &[u64; NAME_WORDS], view: View, rows: &[u64], count: usize) {
     let lines = shown(view, count, LINES);
-    let mut i = 0;
-    while i < lines {
-        resolved_row(source, names, view, rows, i);
-        i += 1;
+    let (arguments, _) = rows.as_chunks::<RESOLVED_WIDTH>();
+    for (row, words) in arguments.iter().take(lines).enumerate() {
+        resolved_row(source, names, view, row, words);
     }
     left_out(view, lines, count, b" more arguments: m, then a, shows all");
 }

@@ -24,6 +24,12 @@ module _ {A : Type 0} (test : ℕ → Bool) (value : ℕ → A) (other : A) (n i
   unfolding first
   first-end h = let e : n - i ≡ 0 = omega arith in rw e
 
+-- no row of n from row i on passes
+pub first-none : {A : Type 0} (test : ℕ → Bool) (value : ℕ → A) (other : A) (n i : ℕ) → ((k : ℕ) → i ≤ k → k < i + n → test k ≡ false) → first test value other i n ≡ other
+unfolding first
+first-none test value other zero i none = refl
+first-none test value other (suc n) i none = rw (none i (omega arith) (omega arith)) (first-none test value other n (i + 1) (λ k l h. none k (omega arith) (omega arith)))
+
 -- neither of two tests holds
 neither : (a b : Bool) → (a || b) ≡ false → (a ≡ false) × (b ≡ false)
 neither false b e = (refl, e)

@@ -8,10 +8,8 @@ mod verdict;
 use script::descriptor::STDOUT_FILENO;
 
 fn main() {
-    let mut place = 0;
-    while place < verdict_table::table::FORMS {
+    for place in 0..verdict_table::table::FORMS {
         io::print_decimal(STDOUT_FILENO, verdict::verdict(place));
-        place += 1;
     }
     io::write_all(STDOUT_FILENO, b"\n");
 }

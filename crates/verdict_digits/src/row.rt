@@ -12,14 +12,10 @@ use verdict_table::blocks::{Block, FAMILIES, NAMES, block_of};
 fn family_at(place: usize) -> usize
     ensures { result ≡ family_at place }
 {
-    let mut family = 0;
-    while family < FAMILIES - 1 {
-        if place < block_of(family + 1).start {
-            return family;
-        }
-        family += 1;
-    }
-    family
+    let last = FAMILIES - 1;
+    (0..last)
+        .find(|&family| place < block_of(family + 1).start)
+        .unwrap_or(last)
 }
 
 // The name of the operand at `which` of its choices, or a literal's bits; 0 where the family has no such operand.
@@ -40,12 +36,10 @@ fn source_form(choices: usize, which: usize) -> u64
     ensures { result ≡ source_form choices which }
 {
     if choices == 1 {
-        return source::NONE;
-    }
-    if which < NAMES {
-        return source::REFERENCE;
-    }
-    if which == NAMES {
+        source::NONE
+    } else if which < NAMES {
+        source::REFERENCE
+    } else if which == NAMES {
         source::INTEGER_LITERAL
     } else {
         source::REAL_LITERAL

@@ -1,4 +1,4 @@
-use mathlib.Core.Path.{refl}
+use Rattle.std.proofs.Common.{refl}
 use Rattle.labels.specs.Chains.{bucket_of}
 use Rattle.labels.proofs.chains.bucket.Goals as goal
 

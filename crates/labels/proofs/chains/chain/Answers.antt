@@ -1,4 +1,4 @@
-use native.Mathlib.Omega.{arith}
+use Rattle.std.proofs.Common.{arith}
 use Rattle.labels.proofs.ChainsLaws.{bucket_below, bucket_within}
 use Rattle.labels.proofs.chains.chain.Goals as goal
 

@@ -1,4 +1,4 @@
-use borrow.Author.Tests.{le-ltb, lt-ltb}
+use Rattle.std.proofs.Common.{le-ltb, lt-ltb}
 use Rattle.labels.specs.Chains.{chained}
 use Rattle.labels.proofs.chains.is_chained.Goals as goal
 

@@ -1,10 +1,4 @@
-use Prim.Native.Nat.{ℕ}
-use mathlib.Core.Bool.{true}
-use mathlib.Core.List.{List}
-use mathlib.Core.Path.{◌≡◌, sym, ap, ◌∙◌}
-use native.Mathlib.Omega.{arith}
-use lib.Dec.{ltb}
-use borrow.Author.Tests.{not-true, not-false, lt-ltb, le-ltb}
+use Rattle.std.proofs.Common.{ℕ, true, List, ◌≡◌, sym, ap, ◌∙◌, arith, ltb, lt-ltb, le-ltb}
 use Rattle.tables.specs.Rows.{instruction_rows, instruction_at}
 use Rattle.tables.specs.declared.rows.Instruction.{Instruction}
 use Rattle.tables.proofs.FirstLaws.{never}
@@ -18,7 +12,7 @@ returns-then-not-is_jump c =
     let instructions : List ℕ = c.args.instructions.now in
     let row : ℕ = c.args.row in
     let jumps : is_jump (instruction_at instructions row) ≡ c.is_jump.result = ap (λ (x : Instruction). is_jump x) (sym c.instruction_at-x.ensures) ∙ sym c.is_jump.ensures in
-    let none = jumps ∙ not-true _ c.if-not-is_jump.true-raw in
+    let none = jumps ∙ c.if-not-is_jump.true in
     record { value = rw none; targets = λ t. targets_skip _ _ _ c.requires.2 none }
 
 pub labelled_row-target-requires : goal.labelled_row-target-requires
@@ -29,7 +23,7 @@ returns-then-rows-target c =
     let instructions : List ℕ = c.args.instructions.now in
     let row : ℕ = c.args.row in
     let jumps : is_jump (instruction_at instructions row) ≡ c.is_jump.result = ap (λ (x : Instruction). is_jump x) (sym c.instruction_at-x.ensures) ∙ sym c.is_jump.ensures in
-    let jump : is_jump (instruction_at instructions row) ≡ true = jumps ∙ not-false _ c.if-not-is_jump.false-raw in
+    let jump : is_jump (instruction_at instructions row) ≡ true = jumps ∙ c.if-not-is_jump.false in
     let seen : let s = instructions in labelled s (label_at s row) (instruction_rows s) ≡ ltb c.labelled_row-target.result (instruction_rows s) = let s = instructions in ap (λ (x : Instruction). labelled s x.second_name (instruction_rows s)) (sym c.instruction_at-x.ensures) ∙ sym c.labelled_row-target.ensures.n_value in
     record { value = rw (jump, seen ∙ le-ltb _ _ c.if-rows-target.true); targets = λ t. never t }
 
@@ -47,7 +41,7 @@ returns c =
     let instructions : List ℕ = c.args.instructions.now in
     let row : ℕ = c.args.row in
     let jumps : is_jump (instruction_at instructions row) ≡ c.is_jump.result = ap (λ (x : Instruction). is_jump x) (sym c.instruction_at-x.ensures) ∙ sym c.is_jump.ensures in
-    let jump : is_jump (instruction_at instructions row) ≡ true = jumps ∙ not-false _ c.if-not-is_jump.false-raw in
+    let jump : is_jump (instruction_at instructions row) ≡ true = jumps ∙ c.if-not-is_jump.false in
     let seen : let s = instructions in labelled s (label_at s row) (instruction_rows s) ≡ ltb c.labelled_row-target.result (instruction_rows s) = let s = instructions in ap (λ (x : Instruction). labelled s x.second_name (instruction_rows s)) (sym c.instruction_at-x.ensures) ∙ sym c.labelled_row-target.ensures.n_value in
     let target : c.labelled_row-target.result ≡ label_row instructions (label_at instructions row) = let here = ap (λ (x : Instruction). has_label instructions x.second_name c.labelled_row-target.result) (sym c.instruction_at-x.ensures) ∙ c.labelled_row-target.ensures.result_value c.if-rows-target.false in
     label_row_is instructions c.requires.1.distinct _ _ c.if-rows-target.false here in

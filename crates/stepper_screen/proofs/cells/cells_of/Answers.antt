@@ -4,7 +4,7 @@ use Rattle.tables.specs.Cells.{cells_outcome}
 use Rattle.tables.proofs.CellsLaws.{cells_given}
 use Rattle.stepper_screen.proofs.cells.cells_of.Goals as goal
 
-pub region_origin-first-requires : goal.region_origin-first-requires
-region_origin-first-requires c =
+pub region_origin-requires : goal.region_origin-requires
+region_origin-requires c =
     let g = cells_given _ _ (seen cells_outcome c.cell_count.ensures c.in-Count.is) in
     (search rules, record { few = omega (arith, g.0, g.1) })
