@@ -10,6 +10,7 @@ use borrow.Author.Tests.{ltb-true}
 use lib.ListN.{length}
 use lib.Dec.{eqb, ltb}
 use Rattle.words.specs.Kind.{fits_kind}
+use Rattle.tables.specs.declared.refusal.Refusal.{Refusal}
 use Rattle.tables.specs.First.{every}
 use Rattle.tables.specs.Outcome.{Outcome, ◌>>=◌, ◌>>◌, need}
 use Rattle.tables.specs.Rows.{region_length}
@@ -38,7 +39,7 @@ pub record Judged (regions externs parameters arguments : List ℕ) (x : Instruc
   pub scalars : scalars_fit regions parameters arguments call ≡ true
   pub fits : reply_fits regions parameters arguments call reply ≡ true
 
-given : {a b : ExternCall} (t : Bool) (n : ℕ) → (need t n >> Ok a) ≡ Ok b → (t ≡ true) × (a ≡ b)
+given : {a b : ExternCall} (t : Bool) (n : Refusal) → (need t n >> Ok a) ≡ Ok b → (t ≡ true) × (a ≡ b)
 given t n e = let (p, q) = passed t n _ _ e in (p, (cc))
 
 module _ (regions externs parameters arguments : List ℕ) (x : Instruction) (call : ExternCall) where

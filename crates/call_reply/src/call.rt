@@ -2,7 +2,7 @@
 ghost use Rattle.std.specs.Prelude.{◌≡◌, true, false};
 ghost use Rattle.tables.specs.Lookup.{lookup_region};
 ghost use Rattle.operands.specs.Reach.{Laid};
-ghost use Rattle.extern_call.specs.Call.{resolution_at, call_answer, CallRanges, Counted, Paired};
+ghost use Rattle.extern_call.specs.Call.{resolution_at, CallRanges, Counted, Paired};
 ghost use Rattle.call_reply.specs.Call.{index_found, scalar_fits, hits, cell_found, cell_hit, of_resolved, scalars_fit, reply_row_fits, reply_fits, reply_write, call_ready, call_judged};
 ghost use Rattle.call_reply.specs.Reach.{FoundWithin, CellWithin, Hit, Judging, Replied};
 
@@ -153,18 +153,13 @@ fn ready_call(
     x: Instruction,
 ) -> Result<ExternCall, Refusal>
     requires { CallRanges externs.now parameters.now arguments.now x }
-    ensures { call_answer result ≡ call_ready regions.now externs.now parameters.now arguments.now x }
+    ensures { result ≡ call_ready regions.now externs.now parameters.now arguments.now x }
 {
-    let answer = resolves(regions, externs, parameters, arguments, x);
-    match answer {
-        Ok(call) => {
-            if !scalars_fit(regions, parameters, arguments, call) {
-                return Err(Refusal::IndexPastLength);
-            }
-            Ok(call)
-        }
-        Err(number) => Err(number),
+    let call = resolves(regions, externs, parameters, arguments, x)?;
+    if !scalars_fit(regions, parameters, arguments, call) {
+        return Err(Refusal::IndexPastLength);
     }
+    Ok(call)
 }
 
 // A CALL whose whole reply fits; else 6, 7, 8, 14 or 17.
@@ -177,18 +172,13 @@ pub fn judge_call(
     reply: &[u64],
 ) -> Result<ExternCall, Refusal>
     requires { CallRanges externs.now parameters.now arguments.now x }
-    ensures { call_answer result ≡ call_judged regions.now externs.now parameters.now arguments.now x reply.now }
+    ensures { result ≡ call_judged regions.now externs.now parameters.now arguments.now x reply.now }
 {
-    let answer = ready_call(regions, externs, parameters, arguments, x);
-    match answer {
-        Ok(call) => {
-            if !reply_fits(regions, parameters, arguments, call, reply) {
-                return Err(Refusal::UnfitReply);
-            }
-            Ok(call)
-        }
-        Err(number) => Err(number),
+    let call = ready_call(regions, externs, parameters, arguments, x)?;
+    if !reply_fits(regions, parameters, arguments, call, reply) {
+        return Err(Refusal::UnfitReply);
     }
+    Ok(call)
 }
 
 fn named_cell(regions: &[u64], name: u64, i: u64) -> usize

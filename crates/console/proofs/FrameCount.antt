@@ -1,4 +1,5 @@
 -- What the call tells of the nodes looked at, as specs/Frame.antt claims it. Assumes nothing.
+use Rattle.std.proofs.Common.{Ok, Err}
 use Prim.Native.Nat.{ℕ}
 use mathlib.Core.Path.{◌≡◌}
 use native.Mathlib.Omega.{arith}
@@ -8,11 +9,9 @@ use Rattle.tables.specs.Rows.{instruction_at}
 use Rattle.tables.specs.declared.rows.Instruction.{Instruction}
 use Rattle.loader.specs.Load.{load_row_look}
 use Rattle.type_rules.specs.Judgement.{verdict_at}
-use Rattle.type_check.specs.Frame.{tree_verdict, tree_rule, frame_rule}
+use Rattle.type_check.specs.Frame.{TreeVerdict, tree_verdict, tree_rule, frame_rule}
 use Rattle.type_check.specs.Looked.{place_plus_one_or, frame_check}
 use Rattle.type_check.specs.declared.frame.NodeError.TheVariants.{Undefined, NotReal}
-use Rattle.type_check.specs.declared.frame.TreeVerdict.{TreeVerdict}
-use Rattle.type_check.specs.declared.frame.TreeVerdict.TheVariants.{AllReal, FailsAt}
 use Rattle.type_check.proofs.Looked.{looked_is}
 use Rattle.console.specs.Answer.{after}
 use Rattle.console.specs.Frame.{with_count, frame_answer, CountOf, frame_tables, FrameCount}
@@ -27,9 +26,9 @@ module _ (x : Instruction) where
 
   -- by the tree's verdict
   counted : (v : TreeVerdict) (row looked : ℕ) → looked ≡ place_plus_one_or v x.first_index → CountOf x (with_count (verdict_at row (tree_rule v)) looked)
-  counted AllReal row looked e = e
-  counted (FailsAt place Undefined) row looked e = omega arith
-  counted (FailsAt place (NotReal found)) row looked e = omega arith
+  counted (Ok _) row looked e = e
+  counted (Err (place, Undefined)) row looked e = omega arith
+  counted (Err (place, (NotReal found))) row looked e = omega arith
 
 pub frame-count : FrameCount
 unfolding frame_tables frame_check frame_rule

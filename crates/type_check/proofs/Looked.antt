@@ -7,14 +7,13 @@ use mathlib.Core.List.{List}
 use mathlib.Core.Path.{◌≡◌, refl, sym, ap, ◌∙◌}
 use native.Mathlib.Omega.{arith}
 use Rattle.tables.specs.First.{first}
-use Rattle.type_check.specs.Frame.{is_failure, at_place, verdict_there, tree_from, tree_verdict}
+use Rattle.type_check.specs.Frame.{TreeVerdict, is_failure, at_place, verdict_there, tree_from, tree_verdict}
 use Rattle.type_check.specs.Looked.{looked_from, place_plus_one_or, LookedIs, tree_check}
-use Rattle.type_check.specs.declared.frame.TreeVerdict.{TreeVerdict}
 
 -- a turn: the node at the place fails and is the last, or the rest is as claimed
 turn : (v : Result (Unit {0}) NodeError) (place rest n : ℕ) (later : TreeVerdict) → place + 1 + rest ≡ place_plus_one_or later (place + 1 + n)
     → place + (1 + cond (is_failure v) 0 rest) ≡ place_plus_one_or (cond (is_failure v) (at_place place v) later) (place + suc n)
-turn (Ok tt) place rest n later e = let s : place + suc n ≡ place + 1 + n = omega arith in rw s (omega arith)
+turn (Ok _) place rest n later e = let s : place + suc n ≡ place + 1 + n = omega arith in rw s (omega arith)
 turn (Err f) place rest n later e = omega arith
 
 -- from a place on: the nodes before it were passed

@@ -25,7 +25,6 @@ use Rattle.type_rules.specs.Codes.{code_of, reference_code, operand_code, source
 use Rattle.type_check.specs.Frame.{address_rule, node_verdicts, node_verdict, is_failure, at_place, tree_rule, tree_verdict, frame_rule}
 use Rattle.type_check.specs.Check.{judgement_of}
 use Rattle.type_check.specs.Names.{operand_named, address_named, node_named, row_named}
-use Rattle.type_check.specs.declared.frame.TreeVerdict.TheVariants.{AllReal}
 use Rattle.type_rules.proofs.CodeLaws.{source_is}
 use Rattle.type_check.proofs.Searches.{searched, same_search}
 
@@ -131,7 +130,7 @@ module _ (regions regions' nodes : List ℕ) (x : Instruction) where
   unfolding frame_rule tree_verdict
   same_frame h =
       ap tree_rule
-      (same_search _ _ _ _ AllReal 0 x.first_index
+      (same_search _ _ _ _ (Ok tt) 0 x.first_index
       (λ k l u.
       let e = same_node (node_at nodes (x.first_name + k)) (λ t. h _ (address-named nodes x k (omega arith) t)) in
       (ap is_failure e, ap (at_place k) e)))

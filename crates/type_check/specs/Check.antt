@@ -17,7 +17,7 @@ unfoldable pub verdict_of : List ℕ → List ℕ → ℕ → Instruction → Re
 verdict_of regions nodes row x = verdict_at row (judgement_of regions nodes x)
 
 abbrev pub is_error : Result (Unit {0}) TypeError → Bool
-is_error (Ok tt) = false
+is_error (Ok _) = false
 is_error (Err e) = true
 
 abbrev pub row_verdict : List ℕ → List ℕ → List ℕ → ℕ → Result (Unit {0}) TypeError

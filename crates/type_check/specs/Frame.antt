@@ -14,8 +14,6 @@ use Rattle.type_rules.specs.Rule.{undeclared}
 use Rattle.type_rules.specs.Codes.{code_of}
 use Rattle.type_check.specs.declared.frame.NodeError.{NodeError}
 use Rattle.type_check.specs.declared.frame.NodeError.TheVariants.{Undefined, NotReal}
-use Rattle.type_check.specs.declared.frame.TreeVerdict.{TreeVerdict}
-use Rattle.type_check.specs.declared.frame.TreeVerdict.TheVariants.{AllReal, FailsAt}
 
 -- "address declared and REAL (3)"
 unfoldable pub address_rule : ℕ → Result (Unit {0}) NodeError
@@ -38,12 +36,16 @@ unfoldable pub node_verdict : List ℕ → Node → Result (Unit {0}) NodeError
 node_verdict regions node = case_of node.tag (node_verdicts regions node) (Ok tt)
 
 abbrev pub is_failure : Result (Unit {0}) NodeError → Bool
-is_failure (Ok tt) = false
+is_failure (Ok _) = false
 is_failure (Err e) = true
 
+-- of a tree: the first failing node by its place, with what it fails by
+abbrev pub TreeVerdict : Type 0
+TreeVerdict = Result (Unit {0}) (ℕ × NodeError)
+
 abbrev pub at_place : ℕ → Result (Unit {0}) NodeError → TreeVerdict
-at_place place (Ok tt) = AllReal
-at_place place (Err e) = FailsAt place e
+at_place place (Ok _) = (Ok tt)
+at_place place (Err e) = Err (place, e)
 
 -- of the node at a place of the tree whose first row is `root`
 abbrev pub verdict_there : List ℕ → List ℕ → ℕ → ℕ → Result (Unit {0}) NodeError
@@ -52,7 +54,7 @@ verdict_there regions nodes root place = node_verdict regions (node_at nodes (ro
 -- of its n nodes from a place on
 abbrev pub tree_from : List ℕ → List ℕ → ℕ → ℕ → ℕ → TreeVerdict
 tree_from regions nodes root place n =
-    first (λ k. is_failure (verdict_there regions nodes root k)) (λ k. at_place k (verdict_there regions nodes root k)) AllReal place n
+    first (λ k. is_failure (verdict_there regions nodes root k)) (λ k. at_place k (verdict_there regions nodes root k)) (Ok tt) place n
 
 -- "left before right": the first failing node in row order, with its place in the tree
 unfoldable pub tree_verdict : List ℕ → List ℕ → ℕ → ℕ → TreeVerdict
@@ -64,8 +66,8 @@ node_fault spot (NotReal found) = real_value_required spot found
 
 -- "in frames 4 plus the node's place in its tree, from 0"
 abbrev pub tree_rule : TreeVerdict → Judgement
-tree_rule AllReal = pass
-tree_rule (FailsAt place e) = node_fault (node_spot place) e
+tree_rule (Ok _) = pass
+tree_rule (Err (place, e)) = node_fault (node_spot place) e
 
 -- "words 3 and 4 (counting from 1) are first node and node count"
 unfoldable pub frame_rule : List ℕ → List ℕ → Instruction → Judgement

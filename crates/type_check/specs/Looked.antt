@@ -1,10 +1,8 @@
 -- 02, P3: "let the frame check end at the first failure, with the error reported today, and count the nodes it looked at". To be read without the proofs; Looked.antt in proofs/ has the theorem.
-use Rattle.std.specs.Prelude.{ℕ, zero, suc, ◌+◌, cond, List, ◌≡◌}
+use Rattle.std.specs.Prelude.{ℕ, zero, suc, ◌+◌, cond, List, ◌≡◌, Ok, Err}
 use Rattle.tables.specs.declared.rows.Instruction.{Instruction}
 use Rattle.type_rules.specs.Judgement.{verdict_at}
-use Rattle.type_check.specs.Frame.{is_failure, verdict_there, tree_verdict, frame_rule}
-use Rattle.type_check.specs.declared.frame.TreeVerdict.{TreeVerdict}
-use Rattle.type_check.specs.declared.frame.TreeVerdict.TheVariants.{AllReal, FailsAt}
+use Rattle.type_check.specs.Frame.{TreeVerdict, is_failure, verdict_there, tree_verdict, frame_rule}
 use Rattle.type_check.specs.declared.frame.TreeCheck.{TreeCheck}
 use Rattle.type_check.specs.declared.frame.FrameCheck.{FrameCheck}
 
@@ -20,8 +18,8 @@ looked_in regions nodes root count = looked_from regions nodes root 0 count
 
 -- 02: "the failing node's place in its tree plus 1, or the whole tree's where none fails"
 abbrev pub place_plus_one_or : TreeVerdict → ℕ → ℕ
-place_plus_one_or (FailsAt place e) count = place + 1
-place_plus_one_or AllReal count = count
+place_plus_one_or (Err (place, e)) count = place + 1
+place_plus_one_or (Ok _) count = count
 
 -- 02: "Proved: the count is the failing node's place in its tree plus 1, or the whole tree's where none fails."
 abbrev pub LookedIs : Type 0

@@ -22,13 +22,6 @@ pub enum NodeError {
     NotReal(u64),
 }
 
-// The place counts nodes of the tree from 0.
-#[derive(Drop)]
-pub enum TreeVerdict {
-    AllReal,
-    FailsAt(u64, NodeError),
-}
-
 fn check_address(regions: &[u64], name: u64) -> Result<(), NodeError>
     ensures { result ≡ address_rule (code_of regions.now name) }
 {
@@ -68,7 +61,7 @@ fn should_be_real(regions: &[u64], node: Node) -> Result<(), NodeError>
 // What was found, and how many nodes were looked at.
 #[derive(Drop)]
 pub struct TreeCheck {
-    pub verdict: TreeVerdict,
+    pub verdict: Result<(), (u64, NodeError)>,
     pub looked: u64,
 }
 
@@ -84,13 +77,13 @@ fn check_tree(regions: &[u64], nodes: &[u64], first: usize, count: usize) -> Tre
         looked += 1;
         if let Err(error) = verdict {
             return TreeCheck {
-                verdict: TreeVerdict::FailsAt(place as u64, error),
+                verdict: Err((place as u64, error)),
                 looked: looked as u64,
             };
         }
     }
     TreeCheck {
-        verdict: TreeVerdict::AllReal,
+        verdict: Ok(()),
         looked: looked as u64,
     }
 }
@@ -122,7 +115,7 @@ pub fn check_frame(regions: &[u64], nodes: &[u64], row: u64, x: Instruction) -> 
         x.first_index as usize,
     );
     let verdict = tree.verdict;
-    let TreeVerdict::FailsAt(place, error) = verdict else {
+    let Err((place, error)) = verdict else {
         return FrameCheck {
             verdict: Ok(()),
             looked: tree.looked,

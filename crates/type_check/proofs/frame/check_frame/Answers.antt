@@ -11,9 +11,9 @@ returns-in_default c =
     rw (c.check_tree-tree.ensures, sym (ap (λ t. t.verdict) c.check_tree-tree.ensures) ∙ c.in_default.is)
 
 pub overflow_add-place : goal.overflow_add-place
-overflow_add-place c = record { fits = let h = place-below _ _ _ _ (sym (ap (λ t. t.verdict) c.check_tree-tree.ensures) ∙ c.in-FailsAt.is) in omega arith }
+overflow_add-place c = record { fits = let h = place-below _ _ _ _ (sym (ap (λ t. t.verdict) c.check_tree-tree.ensures) ∙ c.in-Err.is) in omega arith }
 
 pub returns : goal.returns
 unfolding frame_check frame_rule
 returns c =
-    rw (c.check_tree-tree.ensures, sym (ap (λ t. t.verdict) c.check_tree-tree.ensures) ∙ c.in-FailsAt.is, c.node_error.ensures)
+    rw (c.check_tree-tree.ensures, sym (ap (λ t. t.verdict) c.check_tree-tree.ensures) ∙ c.in-Err.is, c.node_error.ensures)
