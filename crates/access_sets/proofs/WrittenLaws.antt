@@ -1,4 +1,5 @@
 -- A mutable resolved argument's name is in the write set. Assumes nothing.
+use Rattle.std.proofs.Common.{Ok}
 use Prim.Native.Nat.{ℕ, ◌+◌, ◌<◌}
 use mathlib.Core.Path.{◌≡◌, refl, ◌∙◌}
 use mathlib.Core.Bool.{true}
@@ -13,7 +14,6 @@ use Rattle.call_argument.specs.declared.resolved.ResolvedCallArgument.TheVariant
 use Rattle.extern_call.specs.declared.call.ExternCall.{ExternCall}
 use Rattle.extern_call.specs.declared.call.Place.{Place}
 use Rattle.extern_call.specs.declared.call.Place.TheVariants as P
-use Rattle.extern_call.specs.declared.call.CallResolution.TheVariants.{Resolved}
 use Rattle.extern_call.proofs.ResolvedLaws.{resolved_name, resolved_mutable, Facts, mutable_for, resolved_facts}
 use Rattle.access_sets.specs.Set.{has}
 use Rattle.access_sets.specs.Access.{names_in, written_for, written_at, paired_count, access_of}
@@ -31,7 +31,7 @@ facts_named regions a m (R.MemoryReference name index kind mutable) f h = (f.nam
 facts_named regions a m (R.Immediate real imaginary kind) f h = absurd (h refl)
 
 pub mutable_written : (regions parameters arguments : List ℕ) (call : ExternCall) (i : ℕ) (r : ResolvedCallArgument) → i < paired_count call
-    → resolution_at regions parameters arguments call i ≡ Resolved r → (resolved_mutable r ≡ 0 → ⊥)
+    → resolution_at regions parameters arguments call i ≡ Ok r → (resolved_mutable r ≡ 0 → ⊥)
     → has (resolved_name r) (access_of parameters arguments call Write) ≡ true
 unfolding names_in written_at
 mutable_written regions parameters arguments call i r h e d =

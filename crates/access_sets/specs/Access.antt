@@ -1,8 +1,8 @@
 -- 01, Calls: "Access sets: distinct names, ascending." Order: "Access: 1, 2, 3, 6, 4 (argument count in each list)."
-use Rattle.std.specs.Prelude.{ℕ, ◌+◌, Bool, true, not, cond, List, [], ◌∷◌, eqb, ltb, leb, length}
+use Rattle.std.specs.Prelude.{ℕ, ◌+◌, Bool, true, not, cond, List, [], ◌∷◌, eqb, ltb, leb, length, Ok, Err}
 use Rattle.std.proofs.lemmas.List.Edits.{sets}
-use Rattle.tables.specs.Refusal.{buffer_size}
-use Rattle.tables.specs.Outcome.{Outcome, ok, refuse, ◌>>=◌, ◌>>◌, need}
+use Rattle.tables.specs.Refusal.{refusal_number, buffer_size}
+use Rattle.tables.specs.Outcome.{Outcome, ◌>>=◌, ◌>>◌, need}
 use Rattle.tables.specs.Rows.{parameter_at, argument_at}
 use Rattle.tables.specs.declared.rows.Argument.{Argument}
 use Rattle.tables.specs.declared.rows.Instruction.{Instruction}
@@ -15,8 +15,6 @@ use Rattle.extern_call.specs.declared.call.Place.TheVariants.{Return, Parameter}
 use Rattle.access_sets.specs.Set.{insert_all}
 use Rattle.access_sets.specs.declared.access.Access.{Access}
 use Rattle.access_sets.specs.declared.access.Access.TheVariants.{Read, Write}
-use Rattle.access_sets.specs.declared.access.AccessAnswer.{AccessAnswer}
-use Rattle.access_sets.specs.declared.access.AccessAnswer.TheVariants.{Refused, Sets}
 
 -- "Every identifier and reference left ..; an immediate adds nothing."
 unfoldable pub names_in : Argument → List ℕ
@@ -50,31 +48,31 @@ access_of parameters arguments call access = insert_all [] (gather (names_at par
 
 -- what access gives: its answer, and the lent lists at exit
 pub record Accessing : Type 0 where
-  pub answer : AccessAnswer
+  pub answer : Outcome (ℕ × ℕ)
   pub reads : List ℕ
   pub writes : List ℕ
 
-abbrev pub accessing : AccessAnswer → List ℕ → List ℕ → Accessing
+abbrev pub accessing : Outcome (ℕ × ℕ) → List ℕ → List ℕ → Accessing
 accessing answer reads writes = record { answer = answer; reads = reads; writes = writes }
 
 -- the answer's cases: 0, or the refusal's number
-abbrev pub access_number : AccessAnswer → ℕ
-access_number (Refused number) = number
-access_number (Sets read written) = 0
+abbrev pub access_number : Outcome (ℕ × ℕ) → ℕ
+access_number (Err r) = refusal_number r
+access_number (Ok counts) = 0
 
 -- how many names are read and written, where there is no refusal
-abbrev pub access_counts : AccessAnswer → List ℕ
-access_counts (Refused number) = []
-access_counts (Sets read written) = read ∷ written ∷ []
+abbrev pub access_counts : Outcome (ℕ × ℕ) → List ℕ
+access_counts (Err r) = []
+access_counts (Ok (read, written)) = read ∷ written ∷ []
 
 -- "A refusal returns its number .. It writes nothing"
 abbrev pub or_untouched : List ℕ → List ℕ → Outcome Accessing → Accessing
-or_untouched reads writes (ok a) = a
-or_untouched reads writes (refuse number) = accessing (Refused number) reads writes
+or_untouched reads writes (Ok a) = a
+or_untouched reads writes (Err r) = accessing (Err r) reads writes
 
 -- the names of each set at the front of its lent list, and how many there are
 abbrev pub with_sets : List ℕ → List ℕ → List ℕ → List ℕ → Accessing
-with_sets read written reads writes = accessing (Sets (length read) (length written)) (sets reads 0 read) (sets writes 0 written)
+with_sets read written reads writes = accessing (Ok (length read, length written)) (sets reads 0 read) (sets writes 0 written)
 
 -- 6, 4, then the two sets
 unfoldable pub access_call : List ℕ → List ℕ → List ℕ → Instruction → List ℕ → List ℕ → Accessing
@@ -82,4 +80,4 @@ access_call externs parameters arguments x reads writes = or_untouched reads wri
   call ← find_call externs x
   need (leb call.argument_count (length reads)) buffer_size
   need (leb call.argument_count (length writes)) buffer_size
-  ok (with_sets (access_of parameters arguments call Read) (access_of parameters arguments call Write) reads writes))
+  Ok (with_sets (access_of parameters arguments call Read) (access_of parameters arguments call Write) reads writes))

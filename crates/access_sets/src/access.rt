@@ -9,8 +9,8 @@ ghost use Rattle.access_sets.specs.Inner.{Listed, below};
 ghost use Rattle.access_sets.specs.Access.{names_in, written_at, listed_at, names_at, paired_count, access_of, accessing, access_call};
 
 use call_argument::argument::{UnresolvedCallArgument, decode};
-use extern_call::call::{ExternCall, FoundCall, Place, expected_count, find_call, place_of};
-use tables::refusal::{BUFFER_SIZE, EXTERN_NOT_FOUND};
+use extern_call::call::{ExternCall, Place, expected_count, find_call, place_of};
+use tables::refusal::Refusal;
 use tables::rows::{Argument, Instruction, argument_at, parameter_at};
 
 // Which of the two sets.
@@ -18,12 +18,6 @@ use tables::rows::{Argument, Instruction, argument_at, parameter_at};
 pub enum Access {
     Read,
     Write,
-}
-
-#[derive(Drop)]
-pub enum AccessAnswer {
-    Refused(u64),
-    Sets(usize, usize),
 }
 
 // The place of a name among the first `count`, which ascend: how many are below it.
@@ -163,7 +157,7 @@ fn collect(
     count
 }
 
-// The CALL's read and write sets; else 6 or 4.
+// The CALL's read and write sets, and how many names each has; else 6 or 4.
 pub fn access_call(
     externs: &[u64],
     parameters: &[u64],
@@ -171,20 +165,18 @@ pub fn access_call(
     x: Instruction,
     reads: &mut [u64],
     writes: &mut [u64],
-) -> AccessAnswer
+) -> Result<(usize, usize), Refusal>
     requires { CallRanges externs.now parameters.now arguments.now x }
     ensures { accessing result reads.new writes.new ≡ access_call externs.now parameters.now arguments.now x reads.old writes.old }
 {
-    let FoundCall::At(call) = find_call(externs, x) else {
-        return AccessAnswer::Refused(EXTERN_NOT_FOUND);
-    };
+    let call = find_call(externs, x)?;
     if reads.len() < call.argument_count {
-        return AccessAnswer::Refused(BUFFER_SIZE);
+        return Err(Refusal::BufferSize);
     }
     if writes.len() < call.argument_count {
-        return AccessAnswer::Refused(BUFFER_SIZE);
+        return Err(Refusal::BufferSize);
     }
     let read = collect(parameters, arguments, call, Access::Read, reads);
     let written = collect(parameters, arguments, call, Access::Write, writes);
-    AccessAnswer::Sets(read, written)
+    Ok((read, written))
 }

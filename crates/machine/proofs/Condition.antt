@@ -1,4 +1,5 @@
 -- The word that decides a jump is the one that its step has read. Assumes nothing.
+use Rattle.std.proofs.Common.{Ok}
 use Prim.Native.Nat.{ℕ}
 use mathlib.Core.Bool.{Bool, true, ◌||◌}
 use mathlib.Core.List.{List, [], ◌∷◌}
@@ -11,7 +12,7 @@ use Rattle.tables.specs.Cases.{case_of}
 use Rattle.tables.specs.Family as family
 use Rattle.tables.specs.Lookup.{lookup_region}
 use Rattle.tables.specs.Names.{operands_of, names_first, indexes_first, names_second, indexes_second, names_source}
-use Rattle.tables.specs.Outcome.{Outcome, ok, ◌>>=◌}
+use Rattle.tables.specs.Outcome.{Outcome, ◌>>=◌}
 use Rattle.tables.specs.declared.rows.Instruction.{Instruction}
 use Rattle.tables.proofs.Cases.{by_key}
 use Rattle.tables.proofs.FirstLaws.{never}
@@ -48,26 +49,26 @@ module _ (regions cells : List ℕ) (x : Instruction) where
       (λ past e. never (ap₂ ◌||◌ (sym (ne_eqb f family.jump_when (past.from family.jump_when refl))) (sym (ne_eqb f family.jump_unless (past.from family.jump_unless refl))) ∙ e))
 
   -- the region of the first name, and the cell at its index
-  first-region : (n : NamedRegions) → names_first x.family ≡ true → names_of regions x ≡ ok n → found_region (lookup_region regions x.first_name) ≡ ok n.first
+  first-region : (n : NamedRegions) → names_first x.family ≡ true → names_of regions x ≡ Ok n → found_region (lookup_region regions x.first_name) ≡ Ok n.first
   unfolding names_of named_of
   first-region n named e =
       let b = bound (named_of regions (names_first x.family) x.first_name) _ n e in
       let c = bound (named_of regions (names_second x.family) x.second_name) _ n b.rest in
       let d = bound (named_of regions (names_source x.source_form) x.source_first) _ n c.rest in
       let q : record { first = b.value; second = c.value; source = d.value } ≡ n = cc d.rest in
-      ap (λ (t : Bool). named_of regions t x.first_name) (sym named) ∙ b.given ∙ ap (λ (m : NamedRegions). ok m.first) q
+      ap (λ (t : Bool). named_of regions t x.first_name) (sym named) ∙ b.given ∙ ap (λ (m : NamedRegions). Ok m.first) q
 
-  first_cell : (n : NamedRegions) (a : Addresses) → indexes_first x.family ≡ true → addresses_of regions x n ≡ ok a → indexed_of regions n.first x.first_index ≡ ok a.first
+  first_cell : (n : NamedRegions) (a : Addresses) → indexes_first x.family ≡ true → addresses_of regions x n ≡ Ok a → indexed_of regions n.first x.first_index ≡ Ok a.first
   unfolding addresses_of written_of
   first_cell n a indexed e =
       let b = bound (written_of regions (indexes_first x.family) n.first x.first_index) _ a e in
       let c = bound (written_of regions (indexes_second x.family) n.second x.second_index) _ a b.rest in
       let d = bound (written_of regions (names_source x.source_form) n.source x.source_second) _ a c.rest in
       let q : record { first = b.value; second = c.value; source = d.value } ≡ a = cc d.rest in
-      ap (λ (t : Bool). written_of regions t n.first x.first_index) (sym indexed) ∙ b.given ∙ ap (λ (m : Addresses). ok m.first) q
+      ap (λ (t : Bool). written_of regions t n.first x.first_index) (sym indexed) ∙ b.given ∙ ap (λ (m : Addresses). Ok m.first) q
 
   -- a cell that is read gives its word
-  word_read : (c w : ℕ) → condition_of cells c ≡ ok w → w ≡ cell_word cells c
+  word_read : (c w : ℕ) → condition_of cells c ≡ Ok w → w ≡ cell_word cells c
   unfolding read_word read_of
   word_read c w e =
       let b = bound (read_of cells c) _ w e in
@@ -75,7 +76,7 @@ module _ (regions cells : List ℕ) (x : Instruction) where
       let (f, g) = passed _ _ _ b.value b.given in
       cc
 
-  module _ (reply : List ℕ) (ws : List Write) (has : has_condition x ≡ true) (e : plain_outcome regions cells x reply ≡ ok ws) where
+  module _ (reply : List ℕ) (ws : List Write) (has : has_condition x ≡ true) (e : plain_outcome regions cells x reply ≡ Ok ws) where
     abbrev facts : Conditional x.family
     facts = conditional x.family has
 
@@ -87,12 +88,12 @@ module _ (regions cells : List ℕ) (x : Instruction) where
         let d = bound (addresses_of regions x b.value) _ ws b.rest in
         let r = first-region b.value facts.names b.given in
         let i = first_cell b.value d.value facts.indexes d.given in
-        let found : condition_cell regions x ≡ ok d.value.first = rw (r, i) in
+        let found : condition_cell regions x ≡ Ok d.value.first = rw (r, i) in
         let w = bound (condition_of cells d.value.first) _ ws (sym (facts.does b.value d.value) ∙ d.rest) in
         record {
           cell = d.value.first;
           found = found;
-          read = w.given ∙ ap ok (word_read d.value.first w.value w.given ∙ ap (word_on cells) (sym found));
+          read = w.given ∙ ap Ok (word_read d.value.first w.value w.given ∙ ap (word_on cells) (sym found));
         }
 
 pub condition_read : ConditionRead

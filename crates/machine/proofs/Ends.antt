@@ -1,17 +1,18 @@
 -- A small logic of computations that can be refused: every refusal satisfies R, every result P. Without 18 among the refusals it is progress and
 -- preservation, with any refusal it is what holds of the results. Assumes nothing.
+use Rattle.std.proofs.Common.{Ok, Err}
 use Prim.Native.Nat.{ℕ}
 use mathlib.Core.Bool.{Bool, true, false, cond, false≢true}
 use mathlib.Core.List.{List, [], ◌∷◌}
 use mathlib.Core.Path.{◌≡◌, refl, sym, ◌∙◌}
 use native.Mathlib.Omega.{arith}
 use Rattle.tables.specs.Refusal.{journal_full, no_rule}
-use Rattle.tables.specs.Outcome.{Outcome, ok, refuse, ◌>>=◌, ◌>>◌, need}
+use Rattle.tables.specs.Outcome.{Outcome, ◌>>=◌, ◌>>◌, need}
 use Rattle.tables.proofs.Cases.{among}
 
 pub data Ends (R : ℕ → Type 0) {A : Type 0} (P : A → Type 0) : Outcome A → Type 0 where
-  fine : {a : A} → P a → Ends R P (ok a)
-  turned : {n : ℕ} → R n → Ends R P (refuse n)
+  fine : {a : A} → P a → Ends R P (Ok a)
+  turned : {n : ℕ} → R n → Ends R P (Err n)
 
 -- ---- the refusals that may be met
 
@@ -54,19 +55,19 @@ module _ {R : ℕ → Type 0} where
   weaken h (turned r) = turned r
 
   -- what it says of the result
-  pub gives : {A : Type 0} {P : A → Type 0} {s : Outcome A} (a : A) → Ends R P s → s ≡ ok a → P a
+  pub gives : {A : Type 0} {P : A → Type 0} {s : Outcome A} (a : A) → Ends R P s → s ≡ Ok a → P a
   gives {P = P} b (fine {a = a} p) e = let q : a ≡ b = cc in rw (← q) p
   gives b (turned r) e = let z : ◌≡◌ {A = ℕ} 0 1 = cc in absurd (omega arith)
 
   -- and of the refusal
-  pub refuses : {A : Type 0} {P : A → Type 0} {s : Outcome A} (n : ℕ) → Ends R P s → s ≡ refuse n → R n
+  pub refuses : {A : Type 0} {P : A → Type 0} {s : Outcome A} (n : ℕ) → Ends R P s → s ≡ Err n → R n
   refuses n (fine p) e = let z : ◌≡◌ {A = ℕ} 0 1 = cc in absurd (omega arith)
   refuses n (turned {n = m} r) e = let q : m ≡ n = cc in rw (← q) r
 
-pub never_met : {A : Type 0} {P : A → Type 0} {s : Outcome A} (n : ℕ) → among n unmet ≡ true → Ends Ruled P s → s ≡ refuse n → ⊥
+pub never_met : {A : Type 0} {P : A → Type 0} {s : Outcome A} (n : ℕ) → among n unmet ≡ true → Ends Ruled P s → s ≡ Err n → ⊥
 never_met n m h e = false≢true (sym (refuses n h e) ∙ m)
 
 -- any computation, where nothing is asked
 pub any : {A : Type 0} (s : Outcome A) → Ends Any (λ a. Unit {0}) s
-any (ok a) = fine tt
-any (refuse n) = turned tt
+any (Ok a) = fine tt
+any (Err n) = turned tt

@@ -1,4 +1,5 @@
 -- EXCHANGE's two writes leave the same cells in both orders. Assumes nothing.
+use Rattle.std.proofs.Common.{Ok}
 use Prim.Native.Nat.{ℕ, ◌+◌, ◌*◌}
 use mathlib.Core.List.{List, [], ◌∷◌}
 use mathlib.Core.Path.{◌≡◌, sym, ap, ◌∙◌}
@@ -7,7 +8,6 @@ use native.Mathlib.Decide.{ℕ_discrete}
 use lib.ListN.{set}
 use lib.Seq.{set_comm}
 use Rattle.words.specs.Kind.{fits_kind}
-use Rattle.tables.specs.Outcome.{ok}
 use Rattle.tables.proofs.Passed.{passed}
 use Rattle.journal.specs.declared.cells.Write.{Write}
 use Rattle.journal.specs.Cells.{put, applied}
@@ -32,7 +32,7 @@ puts_commute m v w ne =
     )
 
 -- what a cell that was read held
-read_is : (cells : List ℕ) (c : ℕ) (v : Value) → read_of cells c ≡ ok v → cell_at cells c ≡ v
+read_is : (cells : List ℕ) (c : ℕ) (v : Value) → read_of cells c ≡ Ok v → cell_at cells c ≡ v
 unfolding read_of
 read_is cells c v e = let (t, g) = passed (fits_kind (cell_kind cells c) (cell_word cells c)) _ _ _ e in cc g
 

@@ -1,9 +1,9 @@
 -- Where a row's operands were found, the cells that its family looks at are there. Assumes nothing.
+use Rattle.std.proofs.Common.{Ok}
 use Prim.Native.Nat.{ℕ}
 use mathlib.Core.Bool.{true}
 use mathlib.Core.List.{List}
 use mathlib.Core.Path.{◌≡◌, refl}
-use Rattle.tables.specs.Outcome.{ok}
 use Rattle.word_rules.specs.Instruction.{form_allowed}
 use Rattle.tables.specs.declared.rows.Instruction.{Instruction}
 use Rattle.tables.specs.Cases.{case_of}
@@ -18,7 +18,7 @@ use Rattle.operands.proofs.Reaches.{first-named, second-named, names-within, add
 
 -- ---- from the names and the indices
 
-module _ {regions cells : List ℕ} {x : Instruction} (o : Opened regions cells x) {n : NamedRegions} (e : names_of regions x ≡ ok n) where
+module _ {regions cells : List ℕ} {x : Instruction} (o : Opened regions cells x) {n : NamedRegions} (e : names_of regions x ≡ Ok n) where
   pub opened-named : Named regions x n
   opened-named =
       let g = names-within regions x e in
@@ -29,7 +29,7 @@ module _ {regions cells : List ℕ} {x : Instruction} (o : Opened regions cells 
         source = g.source;
       }
 
-  pub opened-placed : {a : Addresses} → addresses_of regions x n ≡ ok a → Placed regions cells x n a
+  pub opened-placed : {a : Addresses} → addresses_of regions x n ≡ Ok a → Placed regions cells x n a
   opened-placed {a} h =
       let g = names-within regions x e in
       let k = addresses_within o.layout.laid x g h in

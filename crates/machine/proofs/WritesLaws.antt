@@ -1,4 +1,5 @@
 -- Whatever the cells hold, a row that is no CALL writes to cells that are there, as many as its family has changes. Assumes nothing.
+use Rattle.std.proofs.Common.{Ok, Err}
 use Prim.Native.Nat.{ℕ, ◌<◌}
 use mathlib.Core.Bool.{Bool, true}
 use mathlib.Core.List.{List, [], ◌∷◌}
@@ -11,7 +12,7 @@ use Rattle.tables.specs.Cases.{case_of}
 use Rattle.tables.specs.Family as family
 use Rattle.tables.specs.Names.{operands_of, names_first, indexes_first, indexes_second}
 use Rattle.tables.specs.Refusal.{no_rule, unfit_literal}
-use Rattle.tables.specs.Outcome.{Outcome, ok, refuse}
+use Rattle.tables.specs.Outcome.{Outcome}
 use Rattle.tables.specs.Rows.{region_rows}
 use Rattle.tables.specs.Cells.{cell_count}
 use Rattle.tables.specs.declared.rows.Instruction.{Instruction}
@@ -68,7 +69,7 @@ module _ {regions : List ℕ} (laid : Laid regions) (cells : List ℕ) where
   Reaches n o = Ends Any (Written regions n) o
 
   -- one write
-  once : {w : Write} → Within regions w → Ends Any (Written regions 1) (ok (w ∷ []))
+  once : {w : Write} → Within regions w → Ends Any (Written regions 1) (Ok (w ∷ []))
   once h = fine (record { within = single h; count = refl })
 
   put-within : (c : ℕ) (v : Value) → c < cell_count regions → Reaches 1 (put_into cells c v)
@@ -80,8 +81,8 @@ module _ {regions : List ℕ} (laid : Laid regions) (cells : List ℕ) where
 
   -- the cell that an offset reaches
   reached : (r i : ℕ) → r < region_rows regions → (o : Outcome ℕ) → indexed_of regions r i ≡ o → Ends Any (λ c. c < cell_count regions) o
-  reached r i h (ok c) e = fine (indexed_within laid r i h e)
-  reached r i h (refuse n) e = turned tt
+  reached r i h (Ok c) e = fine (indexed_within laid r i h e)
+  reached r i h (Err n) e = turned tt
 
   module _ (x : Instruction) (n : NamedRegions) (a : Addresses) where
     -- what a family's writes ask for
@@ -170,7 +171,7 @@ module _ {regions : List ℕ} (laid : Laid regions) (cells : List ℕ) where
     targets : Regions regions x n → Cells regions x a → Targets x.family
     targets g k = record { first = k.first; second = k.second; region = g.first }
 
-  module _ (x : Instruction) (reply : List ℕ) {ws : List Write} (e : plain_outcome regions cells x reply ≡ ok ws) where
+  module _ (x : Instruction) (reply : List ℕ) {ws : List Write} (e : plain_outcome regions cells x reply ≡ Ok ws) where
     written : Written regions (changes_of x.family) ws
     unfolding plain_outcome
     written =

@@ -1,12 +1,12 @@
 -- What a row of each family does, from its operands' cells on. 01, Order: "18 row's cells, 14 index from a cell, 18 cell reached, 15, 16", with
 -- 02's 24 "before 15" (P6) and 23 "after 16" (P5); then the writes.
-use Rattle.std.specs.Prelude.{ℕ, Bool, List, [], ◌∷◌, eqb, ltb}
+use Rattle.std.specs.Prelude.{ℕ, Bool, List, [], ◌∷◌, eqb, ltb, Ok}
 use Rattle.words.specs.Kind.{bit, real, integer_literal, real_literal}
 use Rattle.words.specs.Literal.{literal_fits}
 use Rattle.tables.specs.Cases.{case_of}
 use Rattle.tables.specs.Family as family
 use Rattle.tables.specs.Refusal.{no_rule, unfit_literal}
-use Rattle.tables.specs.Outcome.{Outcome, ok, ◌>>=◌, ◌>>◌, need}
+use Rattle.tables.specs.Outcome.{Outcome, ◌>>=◌, ◌>>◌, need}
 use Rattle.tables.specs.declared.rows.Instruction.{Instruction}
 use Rattle.operands.specs.Cells.{cell_kind, read_of, source_of, offset_of, condition_of, write}
 use Rattle.operands.specs.Address.{indexed_of}
@@ -28,15 +28,15 @@ unfoldable pub put_integer : ℕ → ℕ → ℕ → Outcome (List Write)
 put_integer c kind word = do
   need (ltb kind real) no_rule
   need (literal_fits kind word) unfit_literal
-  ok (one c kind word)
+  Ok (one c kind word)
 
 -- "real literal elsewhere is 2"
 abbrev pub put_real : ℕ → ℕ → ℕ → Outcome (List Write)
-put_real c kind word = need (eqb kind real) no_rule >> ok (one c real word)
+put_real c kind word = need (eqb kind real) no_rule >> Ok (one c real word)
 
 -- "Move, load, store copy kind and word."
 abbrev pub copied : ℕ → Value → Outcome (List Write)
-copied c s = ok (one c s.kind s.word)
+copied c s = Ok (one c s.kind s.word)
 
 abbrev pub literals : List ℕ → ℕ → ℕ → List (ℕ × Outcome (List Write))
 literals cells c word = (integer_literal, put_integer c (cell_kind cells c) word) ∷ (real_literal, put_real c (cell_kind cells c) word) ∷ []
@@ -55,7 +55,7 @@ combined_of kinds result cells x a = do
   s ← source_of cells x a.source
   need (kinds d.kind s.kind) no_rule
   w ← result d.kind d.word s.word
-  ok (one a.first d.kind w)
+  Ok (one a.first d.kind w)
 
 -- "Arithmetic: equal kinds (a literal counts as its own), INTEGER or REAL."; "15 INTEGER zero divisor"
 unfoldable pub arithmetic_of : List ℕ → Instruction → Addresses → Outcome (List Write)
@@ -67,7 +67,7 @@ comparison_of cells x a = do
   l ← read_of cells a.second
   s ← source_of cells x a.source
   need (comparison_kinds l.kind s.kind) no_rule
-  ok (one a.first bit (comparison_result x.operator l.kind l.word s.word))
+  Ok (one a.first bit (comparison_result x.operator l.kind l.word s.word))
 
 -- "Binary logic: destination, then source: declared, not REAL"; "And, Ior, Xor: source's low bits at the destination's width"; "16 negative shift count"
 unfoldable pub logic_of : List ℕ → Instruction → Addresses → Outcome (List Write)
@@ -77,7 +77,7 @@ unfoldable pub unary_of : List ℕ → Instruction → Addresses → Outcome (Li
 unary_of cells x a = do
   d ← read_of cells a.first
   need (unary_kinds x.operator d.kind) no_rule
-  ok (one a.first d.kind (unary_result x.operator d.kind d.word))
+  Ok (one a.first d.kind (unary_result x.operator d.kind d.word))
 
 unfoldable pub move_of : List ℕ → Instruction → Addresses → Outcome (List Write)
 move_of cells x a = do
@@ -89,7 +89,7 @@ unfoldable pub exchange_of : List ℕ → Addresses → Outcome (List Write)
 exchange_of cells a = do
   d ← read_of cells a.first
   e ← read_of cells a.second
-  ok (write a.first e.kind e.word ∷ write a.second d.kind d.word ∷ [])
+  Ok (write a.first e.kind e.word ∷ write a.second d.kind d.word ∷ [])
 
 -- "6 load (second = source region, source = offset reference)"
 unfoldable pub load_of : List ℕ → List ℕ → NamedRegions → Addresses → Outcome (List Write)
@@ -97,7 +97,7 @@ load_of regions cells n a = do
   i ← offset_of cells a.source
   c ← indexed_of regions n.second i
   v ← read_of cells c
-  ok (one a.first v.kind v.word)
+  Ok (one a.first v.kind v.word)
 
 -- "7 store (first = destination region, second = offset)"
 unfoldable pub store_of : List ℕ → List ℕ → Instruction → NamedRegions → Addresses → Outcome (List Write)
@@ -109,7 +109,7 @@ store_of regions cells x n a = do
 
 -- "Frame, NOP: no change, nothing looked up."
 abbrev pub no_writes : Outcome (List Write)
-no_writes = ok []
+no_writes = Ok []
 
 -- 02, P5: "its first name and index the destination, its source a reference whose cell's kind picks the direction". The destination is only overwritten: it gets
 -- the other kind, whatever it held.
@@ -118,7 +118,7 @@ convert_of cells a = do
   s ← read_of cells a.source
   need (convert_kinds s.kind) no_rule
   w ← convert_result s.kind s.word
-  ok (one a.first (converted_kind s.kind) w)
+  Ok (one a.first (converted_kind s.kind) w)
 
 -- 02, P4: a jump with a condition reads it and changes nothing. Where a row leads is in control_flow/specs/Next.antt.
 unfoldable pub conditional_of : List ℕ → Addresses → Outcome (List Write)

@@ -1,7 +1,7 @@
 -- What a row does to the cells: a refusal, or its writes in order. 11 and 13 are the session's.
-use Rattle.std.specs.Prelude.{ℕ, Bool, not, cond, ◌&&◌, List, [], ◌∷◌, length, eqb}
+use Rattle.std.specs.Prelude.{ℕ, Bool, not, cond, ◌&&◌, List, [], ◌∷◌, length, eqb, Ok, Err}
 use Rattle.tables.specs.Refusal.{other_instruction, unfit_reply, unfit_labels}
-use Rattle.tables.specs.Outcome.{Outcome, ok, refuse, ◌>>=◌, ◌>>◌, need}
+use Rattle.tables.specs.Outcome.{Outcome, ◌>>=◌, ◌>>◌, need}
 use Rattle.tables.specs.Family as family
 use Rattle.tables.specs.Operator as operator
 use Rattle.tables.specs.Tables.{Tables}
@@ -43,7 +43,7 @@ outcome_at t cells row reply = outcome_of t cells (instruction_at t.instructions
 
 -- the answer `RowOutcome` of the code
 abbrev pub row_outcome : RowOutcome → Outcome (List Write)
-row_outcome (Refused n) = refuse n
-row_outcome NoWrites = ok []
-row_outcome (One w) = ok (w ∷ [])
-row_outcome (Two v w) = ok (v ∷ w ∷ [])
+row_outcome (Refused n) = Err n
+row_outcome NoWrites = Ok []
+row_outcome (One w) = Ok (w ∷ [])
+row_outcome (Two v w) = Ok (v ∷ w ∷ [])

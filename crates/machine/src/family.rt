@@ -7,28 +7,23 @@ ghost use Rattle.machine.specs.Reach.{TargetAndSource, Compared, Exchanged, Load
 
 use crate::outcome::RowOutcome;
 use journal::cells::{CELL_WIDTH, Write};
-use operands::address::{Addresses, Indexed, NamedRegions, index_cell};
-use operands::cell::{Read, ReadAs, Value, read_as, read_cell, read_source};
+use operands::address::{Addresses, NamedRegions, index_cell};
+use operands::cell::{Value, read_as, read_cell, read_source};
 use operators::convert::{convert_kinds, convert_result, converted_kind};
 use tables::family;
-use tables::refusal::{
-    INDEX_PAST_LENGTH, NEGATIVE_SHIFT_COUNT, NO_RULE, OUTSIDE_INTEGER, UNFIT_LITERAL, ZERO_DIVISOR,
-};
+use tables::refusal::Refusal;
 use tables::rows::Instruction;
-use words::convert::Converted;
-use words::integer::Quotient;
 use words::kind;
-use words::width::Shifted;
 
 // An integer literal put into cell c, which has that kind. A negative literal's word is no word of BIT or OCTET.
 fn put_integer(c: usize, kind: u64, word: u64) -> RowOutcome
     ensures { row_outcome result ≡ put_integer c kind word }
 {
     if kind >= kind::REAL {
-        return RowOutcome::Refused(NO_RULE);
+        return RowOutcome::Refused(Refusal::NoRule);
     }
     if !kind::fits(kind, word) {
-        return RowOutcome::Refused(UNFIT_LITERAL);
+        return RowOutcome::Refused(Refusal::UnfitLiteral);
     }
     RowOutcome::One(Write {
         cell: c,
@@ -55,7 +50,7 @@ fn put_into(cells: &[u64], c: usize, s: Value) -> RowOutcome
                     word,
                 });
             }
-            RowOutcome::Refused(NO_RULE)
+            RowOutcome::Refused(Refusal::NoRule)
         }
         _ => RowOutcome::One(Write {
             cell: c,
@@ -69,18 +64,17 @@ pub fn arithmetic(cells: &[u64], x: Instruction, a: Addresses) -> RowOutcome
     requires { TargetAndSource cells.now x a }
     ensures { row_outcome result ≡ arithmetic_of cells.now x a }
 {
-    let Read::Holds(d) = read_cell(cells, a.first) else {
-        return RowOutcome::Refused(NO_RULE);
+    let Ok(d) = read_cell(cells, a.first) else {
+        return RowOutcome::Refused(Refusal::NoRule);
     };
-    let Read::Holds(s) = read_source(cells, x, a.source) else {
-        return RowOutcome::Refused(NO_RULE);
+    let Ok(s) = read_source(cells, x, a.source) else {
+        return RowOutcome::Refused(Refusal::NoRule);
     };
     if !operators::arithmetic_kinds(d.kind, s.kind) {
-        return RowOutcome::Refused(NO_RULE);
+        return RowOutcome::Refused(Refusal::NoRule);
     }
-    let Quotient::Word(word) = operators::arithmetic_result(x.operator, d.kind, d.word, s.word)
-    else {
-        return RowOutcome::Refused(ZERO_DIVISOR);
+    let Some(word) = operators::arithmetic_result(x.operator, d.kind, d.word, s.word) else {
+        return RowOutcome::Refused(Refusal::ZeroDivisor);
     };
     RowOutcome::One(Write {
         cell: a.first,
@@ -93,14 +87,14 @@ pub fn comparison(cells: &[u64], x: Instruction, a: Addresses) -> RowOutcome
     requires { Compared cells.now x a }
     ensures { row_outcome result ≡ comparison_of cells.now x a }
 {
-    let Read::Holds(l) = read_cell(cells, a.second) else {
-        return RowOutcome::Refused(NO_RULE);
+    let Ok(l) = read_cell(cells, a.second) else {
+        return RowOutcome::Refused(Refusal::NoRule);
     };
-    let Read::Holds(s) = read_source(cells, x, a.source) else {
-        return RowOutcome::Refused(NO_RULE);
+    let Ok(s) = read_source(cells, x, a.source) else {
+        return RowOutcome::Refused(Refusal::NoRule);
     };
     if !operators::comparison_kinds(l.kind, s.kind) {
-        return RowOutcome::Refused(NO_RULE);
+        return RowOutcome::Refused(Refusal::NoRule);
     }
     RowOutcome::One(Write {
         cell: a.first,
@@ -113,17 +107,17 @@ pub fn logic(cells: &[u64], x: Instruction, a: Addresses) -> RowOutcome
     requires { TargetAndSource cells.now x a }
     ensures { row_outcome result ≡ logic_of cells.now x a }
 {
-    let Read::Holds(d) = read_cell(cells, a.first) else {
-        return RowOutcome::Refused(NO_RULE);
+    let Ok(d) = read_cell(cells, a.first) else {
+        return RowOutcome::Refused(Refusal::NoRule);
     };
-    let Read::Holds(s) = read_source(cells, x, a.source) else {
-        return RowOutcome::Refused(NO_RULE);
+    let Ok(s) = read_source(cells, x, a.source) else {
+        return RowOutcome::Refused(Refusal::NoRule);
     };
     if !operators::logic_kinds(d.kind, s.kind) {
-        return RowOutcome::Refused(NO_RULE);
+        return RowOutcome::Refused(Refusal::NoRule);
     }
-    let Shifted::Word(word) = operators::logic_result(x.operator, d.kind, d.word, s.word) else {
-        return RowOutcome::Refused(NEGATIVE_SHIFT_COUNT);
+    let Some(word) = operators::logic_result(x.operator, d.kind, d.word, s.word) else {
+        return RowOutcome::Refused(Refusal::NegativeShiftCount);
     };
     RowOutcome::One(Write {
         cell: a.first,
@@ -136,11 +130,11 @@ fn unary(cells: &[u64], x: Instruction, a: Addresses) -> RowOutcome
     requires { There cells.now a.first }
     ensures { row_outcome result ≡ unary_of cells.now x a }
 {
-    let Read::Holds(d) = read_cell(cells, a.first) else {
-        return RowOutcome::Refused(NO_RULE);
+    let Ok(d) = read_cell(cells, a.first) else {
+        return RowOutcome::Refused(Refusal::NoRule);
     };
     if !operators::unary_kinds(x.operator, d.kind) {
-        return RowOutcome::Refused(NO_RULE);
+        return RowOutcome::Refused(Refusal::NoRule);
     }
     RowOutcome::One(Write {
         cell: a.first,
@@ -153,8 +147,8 @@ fn move_source(cells: &[u64], x: Instruction, a: Addresses) -> RowOutcome
     requires { TargetAndSource cells.now x a }
     ensures { row_outcome result ≡ move_of cells.now x a }
 {
-    let Read::Holds(s) = read_source(cells, x, a.source) else {
-        return RowOutcome::Refused(NO_RULE);
+    let Ok(s) = read_source(cells, x, a.source) else {
+        return RowOutcome::Refused(Refusal::NoRule);
     };
     put_into(cells, a.first, s)
 }
@@ -163,11 +157,11 @@ pub fn exchange(cells: &[u64], a: Addresses) -> RowOutcome
     requires { Exchanged cells.now a }
     ensures { row_outcome result ≡ exchange_of cells.now a }
 {
-    let Read::Holds(d) = read_cell(cells, a.first) else {
-        return RowOutcome::Refused(NO_RULE);
+    let Ok(d) = read_cell(cells, a.first) else {
+        return RowOutcome::Refused(Refusal::NoRule);
     };
-    let Read::Holds(e) = read_cell(cells, a.second) else {
-        return RowOutcome::Refused(NO_RULE);
+    let Ok(e) = read_cell(cells, a.second) else {
+        return RowOutcome::Refused(Refusal::NoRule);
     };
     RowOutcome::Two(
         Write {
@@ -187,14 +181,14 @@ pub fn load(regions: &[u64], cells: &[u64], n: NamedRegions, a: Addresses) -> Ro
     requires { Loading regions.now cells.now n a }
     ensures { row_outcome result ≡ load_of regions.now cells.now n a }
 {
-    let ReadAs::Word(i) = read_as(cells, a.source, kind::INTEGER) else {
-        return RowOutcome::Refused(NO_RULE);
+    let Ok(i) = read_as(cells, a.source, kind::INTEGER) else {
+        return RowOutcome::Refused(Refusal::NoRule);
     };
-    let Indexed::At(c) = index_cell(regions, n.second, i) else {
-        return RowOutcome::Refused(INDEX_PAST_LENGTH);
+    let Ok(c) = index_cell(regions, n.second, i) else {
+        return RowOutcome::Refused(Refusal::IndexPastLength);
     };
-    let Read::Holds(v) = read_cell(cells, c) else {
-        return RowOutcome::Refused(NO_RULE);
+    let Ok(v) = read_cell(cells, c) else {
+        return RowOutcome::Refused(Refusal::NoRule);
     };
     RowOutcome::One(Write {
         cell: a.first,
@@ -213,14 +207,14 @@ pub fn store(
     requires { Storing regions.now cells.now x n a }
     ensures { row_outcome result ≡ store_of regions.now cells.now x n a }
 {
-    let ReadAs::Word(i) = read_as(cells, a.second, kind::INTEGER) else {
-        return RowOutcome::Refused(NO_RULE);
+    let Ok(i) = read_as(cells, a.second, kind::INTEGER) else {
+        return RowOutcome::Refused(Refusal::NoRule);
     };
-    let Read::Holds(s) = read_source(cells, x, a.source) else {
-        return RowOutcome::Refused(NO_RULE);
+    let Ok(s) = read_source(cells, x, a.source) else {
+        return RowOutcome::Refused(Refusal::NoRule);
     };
-    let Indexed::At(c) = index_cell(regions, n.first, i) else {
-        return RowOutcome::Refused(INDEX_PAST_LENGTH);
+    let Ok(c) = index_cell(regions, n.first, i) else {
+        return RowOutcome::Refused(Refusal::IndexPastLength);
     };
     put_into(cells, c, s)
 }
@@ -230,14 +224,14 @@ fn convert(cells: &[u64], a: Addresses) -> RowOutcome
     requires { There cells.now a.source }
     ensures { row_outcome result ≡ convert_of cells.now a }
 {
-    let Read::Holds(s) = read_cell(cells, a.source) else {
-        return RowOutcome::Refused(NO_RULE);
+    let Ok(s) = read_cell(cells, a.source) else {
+        return RowOutcome::Refused(Refusal::NoRule);
     };
     if !convert_kinds(s.kind) {
-        return RowOutcome::Refused(NO_RULE);
+        return RowOutcome::Refused(Refusal::NoRule);
     }
-    let Converted::Word(word) = convert_result(s.kind, s.word) else {
-        return RowOutcome::Refused(OUTSIDE_INTEGER);
+    let Some(word) = convert_result(s.kind, s.word) else {
+        return RowOutcome::Refused(Refusal::OutsideInteger);
     };
     RowOutcome::One(Write {
         cell: a.first,
@@ -251,8 +245,8 @@ fn conditional(cells: &[u64], a: Addresses) -> RowOutcome
     requires { There cells.now a.first }
     ensures { row_outcome result ≡ conditional_of cells.now a }
 {
-    let ReadAs::Word(_) = read_as(cells, a.first, kind::BIT) else {
-        return RowOutcome::Refused(NO_RULE);
+    let Ok(_) = read_as(cells, a.first, kind::BIT) else {
+        return RowOutcome::Refused(Refusal::NoRule);
     };
     RowOutcome::NoWrites
 }

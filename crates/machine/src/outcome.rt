@@ -5,8 +5,8 @@ ghost use Rattle.machine.specs.Reach.{Opened};
 
 use crate::family::family_outcome;
 use journal::cells::Write;
-use operands::address::{Indices, Names, named_regions, written_addresses};
-use tables::refusal::{INDEX_PAST_LENGTH, NO_RULE, UNFIT_REPLY};
+use operands::address::{named_regions, written_addresses};
+use tables::refusal::Refusal;
 use tables::rows::Instruction;
 use tables::{family, operator};
 
@@ -31,13 +31,13 @@ pub fn plain_outcome(regions: &[u64], cells: &[u64], x: Instruction, reply: &[u6
     ensures { row_outcome result ≡ plain_outcome regions.now cells.now x reply.now }
 {
     if reply.len() != 0 {
-        return RowOutcome::Refused(UNFIT_REPLY);
+        return RowOutcome::Refused(Refusal::UnfitReply);
     }
-    let Names::Declared(n) = named_regions(regions, x) else {
-        return RowOutcome::Refused(NO_RULE);
+    let Ok(n) = named_regions(regions, x) else {
+        return RowOutcome::Refused(Refusal::NoRule);
     };
-    let Indices::Within(a) = written_addresses(regions, x, n) else {
-        return RowOutcome::Refused(INDEX_PAST_LENGTH);
+    let Ok(a) = written_addresses(regions, x, n) else {
+        return RowOutcome::Refused(Refusal::IndexPastLength);
     };
     family_outcome(regions, cells, x, n, a)
 }

@@ -1,4 +1,5 @@
 -- What the looks at a position have seen. Assumes nothing.
+use Rattle.std.proofs.Common.{Ok, Err}
 use Prim.Native.Nat.{ℕ, ◌≤◌}
 use mathlib.Core.Bool.{Bool, true, false}
 use mathlib.Core.List.{List}
@@ -6,7 +7,7 @@ use mathlib.Core.Path.{◌≡◌, refl}
 use lib.Dec.{leb}
 use borrow.Author.Tests.{leb-true, le-leb}
 use Rattle.tables.specs.Refusal.{foreign_position}
-use Rattle.tables.specs.Outcome.{Outcome, ok, refuse, ◌>>=◌, ◌>>◌, need}
+use Rattle.tables.specs.Outcome.{Outcome, ◌>>=◌, ◌>>◌, need}
 use Rattle.tables.specs.Tables.{Tables}
 use Rattle.tables.specs.Rows.{instruction_rows}
 use Rattle.tables.proofs.Passed.{both}
@@ -39,7 +40,7 @@ unfolding placed_look ◌>>=◌ ◌>>◌ need
 placed_then {A} t memory journal p rest = at (prepared_of t memory journal) (position_fits t.instructions (entries_of journal) p)
   where
     at : (o : Outcome ℕ) (b : Bool)
-        → ((o >>= (λ n. need b foreign_position >> ok n)) >>= rest) ≡ (o >>= (λ n. need b foreign_position >> rest n))
-    at (refuse number) b = refl
-    at (ok n) true = refl
-    at (ok n) false = refl
+        → ((o >>= (λ n. need b foreign_position >> Ok n)) >>= rest) ≡ (o >>= (λ n. need b foreign_position >> rest n))
+    at (Err number) b = refl
+    at (Ok n) true = refl
+    at (Ok n) false = refl

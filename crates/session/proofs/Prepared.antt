@@ -1,4 +1,5 @@
 -- What is known behind the looks at the tables, and behind those that open, forward, back and run begin with. Assumes nothing.
+use Rattle.std.proofs.Common.{Ok, Err}
 use Prim.Native.Nat.{ℕ, ◌*◌, ◌%◌, ◌≤◌}
 use mathlib.Core.Bool.{Bool, true, ◌&&◌}
 use mathlib.Core.List.{List}
@@ -8,7 +9,7 @@ use lib.ListN.{length, take}
 use lib.Seq.{length-take-le}
 use lib.Dec.{eqb, leb}
 use borrow.Author.Tests.{eqb-true, leb-true}
-use Rattle.tables.specs.Outcome.{Outcome, ok, refuse, ◌>>=◌, ◌>>◌}
+use Rattle.tables.specs.Outcome.{Outcome, ◌>>=◌, ◌>>◌}
 use Rattle.tables.specs.Tables.{Tables}
 use Rattle.loader.specs.Load.{load_look}
 use Rattle.tables.specs.Cells.{cell_limit, cell_count, cells_of}
@@ -19,18 +20,18 @@ use Rattle.journal.specs.Cells.{cell_width}
 use Rattle.journal.specs.Entries.{entry_width, entry_limit}
 use Rattle.session.specs.Prepare.{tables_look, entries_of, buffers_fit, prepared_of, Ready}
 
-then_ok : {B : Type 0} (s : Outcome (Unit {0})) (r : Outcome B) (b : B) → (s >> r) ≡ ok b → (s ≡ ok tt) × (r ≡ ok b)
+then_ok : {B : Type 0} (s : Outcome (Unit {0})) (r : Outcome B) (b : B) → (s >> r) ≡ Ok b → (s ≡ Ok tt) × (r ≡ Ok b)
 unfolding ◌>>◌
-then_ok (ok u) r b e = (refl, e)
-then_ok (refuse n) r b e = let z : ◌≡◌ {A = ℕ} 0 1 = cc in absurd (omega arith)
+then_ok (Ok u) r b e = (refl, e)
+then_ok (Err n) r b e = let z : ◌≡◌ {A = ℕ} 0 1 = cc in absurd (omega arith)
 
 -- behind 1, 2, 3 and 10
 pub record Counted (t : Tables) (n : ℕ) : Type 0 where
-  pub loads : load_look t ≡ ok tt
+  pub loads : load_look t ≡ Ok tt
   pub count : n ≡ cell_count t.regions
   pub few : n ≤ cell_limit
 
-pub counted : (t : Tables) {n : ℕ} → tables_look t ≡ ok n → Counted t n
+pub counted : (t : Tables) {n : ℕ} → tables_look t ≡ Ok n → Counted t n
 unfolding tables_look
 counted t {n} e =
     let (l, e₁) = then_ok (load_look t) (cells_of t.regions) n e in
@@ -52,7 +53,7 @@ fitting cells memory journal e =
 
 -- behind 1, 2, 3, 10 and 4
 pub record Facts (t : Tables) (memory journal n : ℕ) : Type 0 where
-  pub loads : load_look t ≡ ok tt
+  pub loads : load_look t ≡ Ok tt
   pub count : n ≡ cell_count t.regions
   pub few : n ≤ cell_limit
   pub room : cell_width * n ≤ memory
@@ -60,15 +61,15 @@ pub record Facts (t : Tables) (memory journal n : ℕ) : Type 0 where
   pub short : entries_of journal ≤ entry_limit
 
 -- the tables' looks, with which they begin, have passed
-pub tables-looked : (t : Tables) (memory journal : ℕ) {n : ℕ} → prepared_of t memory journal ≡ ok n → tables_look t ≡ ok n
+pub tables-looked : (t : Tables) (memory journal : ℕ) {n : ℕ} → prepared_of t memory journal ≡ Ok n → tables_look t ≡ Ok n
 unfolding prepared_of
 tables-looked t memory journal {n} e =
     let b = bound (tables_look t) _ n e in
     let (f, e₁) = passed (buffers_fit b.value memory journal) _ _ n b.rest in
     let q : b.value ≡ n = cc in
-    b.given ∙ ap ok q
+    b.given ∙ ap Ok q
 
-pub prepared : (t : Tables) (memory journal : ℕ) {n : ℕ} → prepared_of t memory journal ≡ ok n → Facts t memory journal n
+pub prepared : (t : Tables) (memory journal : ℕ) {n : ℕ} → prepared_of t memory journal ≡ Ok n → Facts t memory journal n
 unfolding prepared_of
 prepared t memory journal {n} e =
     let b = bound (tables_look t) _ n e in

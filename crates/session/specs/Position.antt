@@ -1,7 +1,7 @@
 -- 01, Order: "1, 2, 3, 10, 4, 19", with which forward, back and run begin; 19 and 13 are looks at a position.
-use Rattle.std.specs.Prelude.{ℕ, ◌+◌, ◌-◌, Bool, ◌&&◌, List, length, leb}
+use Rattle.std.specs.Prelude.{ℕ, ◌+◌, ◌-◌, Bool, ◌&&◌, List, length, leb, Ok}
 use Rattle.tables.specs.Refusal.{foreign_position, journal_full}
-use Rattle.tables.specs.Outcome.{Outcome, ok, ◌>>=◌, ◌>>◌, need}
+use Rattle.tables.specs.Outcome.{Outcome, ◌>>=◌, ◌>>◌, need}
 use Rattle.tables.specs.Tables.{Tables}
 use Rattle.tables.specs.Rows.{instruction_rows}
 use Rattle.journal.specs.declared.cells.Write.{Write}
@@ -17,8 +17,8 @@ unfoldable pub placed_look : Tables → ℕ → ℕ → Position → Outcome ℕ
 placed_look t memory journal p = do
   n ← prepared_of t memory journal
   need (position_fits t.instructions (entries_of journal) p) foreign_position
-  ok n
+  Ok n
 
 -- "13 journal full, exactly when changes plus 1 exceed entries left"
 unfoldable pub room_for : ℕ → Position → List Write → Outcome (List Write)
-room_for entries p ws = need (leb (length ws + 1) (entries - p.used)) journal_full >> ok ws
+room_for entries p ws = need (leb (length ws + 1) (entries - p.used)) journal_full >> Ok ws

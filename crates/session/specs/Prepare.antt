@@ -1,15 +1,13 @@
 -- 01, Order: "1, 2, 3, 10, 4", with which open, forward, back and run begin.
-use Rattle.std.specs.Prelude.{ℕ, ◌*◌, ◌/◌, ◌%◌, ◌≤◌, Bool, ◌&&◌, List, ◌≡◌, eqb, leb}
+use Rattle.std.specs.Prelude.{ℕ, ◌*◌, ◌/◌, ◌%◌, ◌≤◌, Bool, ◌&&◌, List, ◌≡◌, eqb, leb, Ok}
 use Rattle.tables.specs.Refusal.{buffer_size}
-use Rattle.tables.specs.Outcome.{Outcome, ok, refuse, ◌>>=◌, ◌>>◌, need}
+use Rattle.tables.specs.Outcome.{Outcome, ◌>>=◌, ◌>>◌, need}
 use Rattle.tables.specs.Tables.{Tables}
 use Rattle.loader.specs.Load.{load_look}
 use Rattle.tables.specs.Cells.{cells_of}
 use Rattle.journal.specs.Cells.{cell_width}
 use Rattle.journal.specs.Entries.{entry_width, entry_limit}
 use Rattle.operands.specs.Reach.{Layout}
-use Rattle.session.specs.declared.prepare.Prepared.{Prepared}
-use Rattle.session.specs.declared.prepare.Prepared.TheVariants.{Cells, Refused}
 
 -- "1, 2, 3, 10", the tables' looks: the number of cells
 unfoldable pub tables_look : Tables → Outcome ℕ
@@ -30,16 +28,11 @@ unfoldable pub prepared_of : Tables → ℕ → ℕ → Outcome ℕ
 prepared_of t memory journal = do
   n ← tables_look t
   need (buffers_fit n memory journal) buffer_size
-  ok n
-
--- the answer `Prepared` of the code
-abbrev pub prepared_outcome : Prepared → Outcome ℕ
-prepared_outcome (Cells n) = ok n
-prepared_outcome (Refused number) = refuse number
+  Ok n
 
 -- What the functions behind these looks ask for: the tables are loaded, the cells are those of their regions, and the journal has whole entries, not too many.
 pub record Ready (t : Tables) (cells : List ℕ) (journal : ℕ) : Type 0 where
-  pub loads : load_look t ≡ ok tt
+  pub loads : load_look t ≡ Ok tt
   pub layout : Layout t.regions cells
   pub whole : journal % entry_width ≡ 0
   pub short : entries_of journal ≤ entry_limit

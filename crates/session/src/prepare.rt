@@ -2,21 +2,13 @@
 ghost use Rattle.std.specs.Prelude.{◌≡◌, ◌≤◌};
 ghost use Rattle.tables.specs.Tables.{tables_of};
 ghost use Rattle.tables.specs.Cells.{cell_limit};
-ghost use Rattle.session.specs.Prepare.{tables_look, buffers_fit, prepared_of, prepared_outcome};
+ghost use Rattle.session.specs.Prepare.{tables_look, buffers_fit, prepared_of};
 
 use journal::cells::CELL_WIDTH;
 use journal::entries::{ENTRY_LIMIT, ENTRY_WIDTH};
 use loader::load::load_tables;
-use tables::cells::{Cells, cell_count};
-use tables::look::Look;
-use tables::refusal::{BUFFER_SIZE, TOO_MANY_CELLS};
-
-// The number of cells, or a refusal by its number.
-#[derive(Drop)]
-pub enum Prepared {
-    Cells(usize),
-    Refused(u64),
-}
+use tables::cells::cell_count;
+use tables::refusal::Refusal;
 
 // 1, 2, 3 and 10: the tables alone.
 pub fn tables_look(
@@ -26,17 +18,17 @@ pub fn tables_look(
     nodes: &[u64],
     arguments: &[u64],
     instructions: &[u64],
-) -> Prepared
-    ensures { prepared_outcome result ≡ tables_look (tables_of regions.now externs.now parameters.now nodes.now arguments.now instructions.now) }
+) -> Result<usize, Refusal>
+    ensures { result ≡ tables_look (tables_of regions.now externs.now parameters.now nodes.now arguments.now instructions.now) }
 {
     let loaded = load_tables(regions, externs, parameters, nodes, arguments, instructions);
-    if let Look::Refused(number) = loaded {
-        return Prepared::Refused(number);
+    if let Err(number) = loaded {
+        return Err(number);
     }
-    let Cells::Count(cells) = cell_count(regions) else {
-        return Prepared::Refused(TOO_MANY_CELLS);
+    let Ok(cells) = cell_count(regions) else {
+        return Err(Refusal::TooManyCells);
     };
-    Prepared::Cells(cells)
+    Ok(cells)
 }
 
 // Whether memory and journal, so many words each, are long enough, whole and not too long.
@@ -58,15 +50,15 @@ pub fn prepare(
     instructions: &[u64],
     memory: usize,
     journal: usize,
-) -> Prepared
-    ensures { prepared_outcome result ≡ prepared_of (tables_of regions.now externs.now parameters.now nodes.now arguments.now instructions.now) memory journal }
+) -> Result<usize, Refusal>
+    ensures { result ≡ prepared_of (tables_of regions.now externs.now parameters.now nodes.now arguments.now instructions.now) memory journal }
 {
     let looked = tables_look(regions, externs, parameters, nodes, arguments, instructions);
-    let Prepared::Cells(cells) = looked else {
+    let Ok(cells) = looked else {
         return looked;
     };
     if !buffers_fit(cells, memory, journal) {
-        return Prepared::Refused(BUFFER_SIZE);
+        return Err(Refusal::BufferSize);
     }
-    Prepared::Cells(cells)
+    Ok(cells)
 }

@@ -10,7 +10,7 @@ use Rattle.type_check.specs.Frame.{TreeVerdict, at_place, verdict_there, tree_ve
 use Rattle.type_check.specs.declared.frame.NodeError.{NodeError}
 use Rattle.type_check.proofs.Searches.{searched}
 
-place_in : TreeVerdict → ℕ
+abbrev place_in : TreeVerdict → ℕ
 place_in (Ok _) = 0
 place_in (Err at) = at.0
 

@@ -1,16 +1,15 @@
 -- 02, P7: the verdict on each form, and how many forms are under each.
-use Rattle.std.specs.Prelude.{ℕ, zero, suc, ◌+◌, cond, List, map, eqb, get_or}
+use Rattle.type_rules.specs.declared.error.TypeError.{TypeError}
+use Rattle.std.specs.Prelude.{ℕ, zero, suc, ◌+◌, cond, List, map, eqb, get_or, Result, Ok, Err}
 use Rattle.tables.specs.Cases.{case_of}
 use Rattle.type_rules.specs.Judgement.{verdict_at}
 use Rattle.type_rules.specs.Rule.{arithmetic_source, arithmetic_rule, source_rule, comparison_rule, logic_source, logic_rule, unary_rule, move_rule, exchange_rule, load_offset, load_rule, store_source, store_rule, rule_of}
-use Rattle.type_rules.specs.declared.error.Verdict.{Verdict}
-use Rattle.type_rules.specs.declared.error.Verdict.TheVariants.{Accepted, Error}
 use Rattle.verdict_table.specs.Forms.{Form, forms}
 
 -- 02: "each 0 for accepted or the error kind"
-abbrev pub kind_of : Verdict → ℕ
-kind_of Accepted = 0
-kind_of (Error e) = e.kind
+abbrev pub kind_of : Result (Unit {0}) TypeError → ℕ
+kind_of (Ok _) = 0
+kind_of (Err e) = e.kind
 
 -- by the typing rules; the row's number matters to no kind
 unfoldable pub verdict_on : Form → ℕ

@@ -1,10 +1,12 @@
+use Rattle.std.proofs.Common.{Ok}
+use Rattle.tables.proofs.Passed.{seen}
 use mathlib.Core.Bool.{true}
 use mathlib.Core.Path.{◌≡◌}
 use lib.Dec.{eqb}
 use lib.ListN.{length}
 use borrow.Author.Tests.{eq-eqb, ne_eqb}
-use Rattle.tables.specs.Outcome.{ok, ◌>>=◌, ◌>>◌, need, seen}
-use Rattle.operands.specs.Address.{names_of, addresses_of, names_outcome, indices_outcome}
+use Rattle.tables.specs.Outcome.{◌>>=◌, ◌>>◌, need}
+use Rattle.operands.specs.Address.{names_of, addresses_of}
 use Rattle.machine.specs.Outcome.{plain_outcome}
 use Rattle.machine.proofs.Reaches.{opened-named, opened-placed}
 use Rattle.machine.proofs.outcome.plain_outcome.Goals as goal
@@ -17,30 +19,30 @@ pub returns-in_default : goal.returns-in_default
 unfolding plain_outcome ◌>>=◌ ◌>>◌ need
 returns-in_default c =
     let empty : eqb (length c.args.reply.now) 0 ≡ true = eq-eqb (length c.args.reply.now) 0 c.if-reply-ne0.false in
-    rw (empty, seen names_outcome c.named_regions.ensures c.in_default.is)
+    rw (empty, seen c.named_regions.ensures c.in_default.is)
 
 pub written_addresses-requires : goal.written_addresses-requires
 written_addresses-requires c =
-    let declared : names_of c.args.regions.now c.args.x ≡ ok c.in-Declared.n = seen names_outcome c.named_regions.ensures c.in-Declared.is in
+    let declared : names_of c.args.regions.now c.args.x ≡ Ok c.in-Ok.n = seen c.named_regions.ensures c.in-Ok.is in
     opened-named c.requires declared
 
 pub returns-in_default-written_addresses : goal.returns-in_default-written_addresses
 unfolding plain_outcome ◌>>=◌ ◌>>◌ need
 returns-in_default-written_addresses c =
     let empty : eqb (length c.args.reply.now) 0 ≡ true = eq-eqb (length c.args.reply.now) 0 c.if-reply-ne0.false in
-    let declared : names_of c.args.regions.now c.args.x ≡ ok c.in-Declared.n = seen names_outcome c.named_regions.ensures c.in-Declared.is in
-    rw (empty, declared, seen indices_outcome c.written_addresses.ensures c.in_default-written_addresses.is)
+    let declared : names_of c.args.regions.now c.args.x ≡ Ok c.in-Ok.n = seen c.named_regions.ensures c.in-Ok.is in
+    rw (empty, declared, seen c.written_addresses.ensures c.in_default-written_addresses.is)
 
 pub family_outcome-requires : goal.family_outcome-requires
 family_outcome-requires c =
-    let declared : names_of c.args.regions.now c.args.x ≡ ok c.in-Declared.n = seen names_outcome c.named_regions.ensures c.in-Declared.is in
-    let within : addresses_of c.args.regions.now c.args.x c.in-Declared.n ≡ ok c.in-Within.a = seen indices_outcome c.written_addresses.ensures c.in-Within.is in
+    let declared : names_of c.args.regions.now c.args.x ≡ Ok c.in-Ok.n = seen c.named_regions.ensures c.in-Ok.is in
+    let within : addresses_of c.args.regions.now c.args.x c.in-Ok.n ≡ Ok c.in-Ok.a = seen c.written_addresses.ensures c.in-Ok.is in
     opened-placed c.requires declared within
 
 pub returns : goal.returns
 unfolding plain_outcome ◌>>=◌ ◌>>◌ need
 returns c =
     let empty : eqb (length c.args.reply.now) 0 ≡ true = eq-eqb (length c.args.reply.now) 0 c.if-reply-ne0.false in
-    let declared : names_of c.args.regions.now c.args.x ≡ ok c.in-Declared.n = seen names_outcome c.named_regions.ensures c.in-Declared.is in
-    let within : addresses_of c.args.regions.now c.args.x c.in-Declared.n ≡ ok c.in-Within.a = seen indices_outcome c.written_addresses.ensures c.in-Within.is in
+    let declared : names_of c.args.regions.now c.args.x ≡ Ok c.in-Ok.n = seen c.named_regions.ensures c.in-Ok.is in
+    let within : addresses_of c.args.regions.now c.args.x c.in-Ok.n ≡ Ok c.in-Ok.a = seen c.written_addresses.ensures c.in-Ok.is in
     rw (empty, declared, within) c.family_outcome.ensures
