@@ -1,50 +1,31 @@
 // Refusal 3: the first two regions, or else the first two externs, that have one name.
-ghost use Rattle.std.specs.Prelude.{◌<◌};
-
 use crate::fault::Where;
-use crate::row::next_row;
+use crate::program::Program;
 use stepper_words::heading::Table;
+use stepper_words::names::word_of;
 use tables::lookup::{Found, lookup_extern, lookup_region};
-use tables::rows::{EXTERN_WIDTH, REGION_WIDTH};
 
-// What the library finds under a name.
-fn look_up(table: Table, words: &[u64], name: u64) -> Found {
-    match table {
-        Table::Regions => lookup_region(words, name),
-        _ => lookup_extern(words, name),
-    }
-}
-
-// A row with one before it of its name.
-fn pair(table: Table, name: u64, first: Found, row: usize) -> Where {
-    let Found::At(earlier) = first else {
-        return Where::Nowhere;
-    };
-    if earlier < row {
-        return Where::SameName(table, name, earlier, row);
-    }
-    Where::Nowhere
-}
-
-fn find_in(table: Table, words: &[u64], width: usize) -> Where
-    requires { 0 < width }
+// The first row with one before it of its name, by what the library finds under a name.
+fn find_in<F: Fn(u64) -> Found>(table: Table, words: &[u64], look_up: F) -> Option<Where>
+    requires { F.IsAlwaysCallable look_up }
 {
-    let mut at = 0;
-    while at < words.len() {
-        let name = words[at];
-        let found = pair(table, name, look_up(table, words, name), at / width);
-        if found.is_somewhere() {
-            return found;
+    for (number, row) in words.chunks(table.width()).enumerate() {
+        let name = word_of(row, 0);
+        if let Found::At(earlier) = look_up(name)
+            && earlier < number
+        {
+            return Some(Where::SameName(table, name, earlier, number));
         }
-        at = next_row(at, width, words.len());
     }
-    Where::Nowhere
+    None
 }
 
-pub fn find_name(regions: &[u64], externs: &[u64]) -> Where {
-    find_in(Table::Regions, regions, REGION_WIDTH).or(find_in(
+pub fn find_name(program: Program) -> Option<Where> {
+    let regions = program.regions;
+    let externs = program.externs;
+    find_in(Table::Regions, regions, |name| lookup_region(regions, name)).or_else(|| find_in(
         Table::Externs,
         externs,
-        EXTERN_WIDTH,
+        |name| lookup_extern(externs, name),
     ))
 }
