@@ -27,10 +27,9 @@ fn find_in<F: Fn(Row, Instruction) -> Option<Where>>(
 
 // The first two rows of one label, or else the first jump to a label that is on none.
 pub fn find_label(instructions: &[u64]) -> Option<Where> {
-    find_in(instructions, |row, x| label_twice(instructions, row, x)).or_else(|| find_in(
-        instructions,
-        |row, x| target(instructions, row, x),
-    ))
+    let twice = find_in(instructions, |row, x| label_twice(instructions, row, x));
+    let nowhere = find_in(instructions, |row, x| target(instructions, row, x));
+    twice.or(nowhere)
 }
 
 pub fn find_condition(regions: &[u64], instructions: &[u64]) -> Option<Where> {

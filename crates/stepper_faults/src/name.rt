@@ -2,19 +2,17 @@
 use crate::fault::Where;
 use crate::program::Program;
 use stepper_words::heading::Table;
-use stepper_words::names::word_of;
 use tables::lookup::{Found, lookup_extern, lookup_region};
 
 // The first row with one before it of its name, by what the library finds under a name.
 fn find_in<F: Fn(u64) -> Found>(table: Table, words: &[u64], look_up: F) -> Option<Where>
     requires { F.IsAlwaysCallable look_up }
 {
-    for (number, row) in words.chunks(table.width()).enumerate() {
-        let name = word_of(row, 0);
-        if let Found::At(earlier) = look_up(name)
-            && earlier < number
+    for (row, name) in words.iter().step_by(table.width()).enumerate() {
+        if let Found::At(earlier) = look_up(*name)
+            && earlier < row
         {
-            return Some(Where::SameName(table, name, earlier, number));
+            return Some(Where::SameName(table, *name, earlier, row));
         }
     }
     None
@@ -23,9 +21,7 @@ fn find_in<F: Fn(u64) -> Found>(table: Table, words: &[u64], look_up: F) -> Opti
 pub fn find_name(program: Program) -> Option<Where> {
     let regions = program.regions;
     let externs = program.externs;
-    find_in(Table::Regions, regions, |name| lookup_region(regions, name)).or_else(|| find_in(
-        Table::Externs,
-        externs,
-        |name| lookup_extern(externs, name),
-    ))
+    let in_regions = find_in(Table::Regions, regions, |name| lookup_region(regions, name));
+    let in_externs = find_in(Table::Externs, externs, |name| lookup_extern(externs, name));
+    in_regions.or(in_externs)
 }

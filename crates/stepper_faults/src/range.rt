@@ -8,13 +8,9 @@ use tables::family;
 use tables::rows::{NODE_LIMIT, NODE_WIDTH};
 use tables::tree::range_inside;
 
-fn is_inside(range: Range) -> bool {
-    range_inside(range.first, range.count, range.rows)
-}
-
 // What a row asks for, where it lies outside its table; else the row.
 fn outside(row: Row, range: Range) -> Where {
-    if is_inside(range) {
+    if range_inside(range.first, range.count, range.rows) {
         return Where::Whole(row);
     }
     Where::Outside(row, range)
@@ -34,10 +30,12 @@ fn tree_rows(nodes: &[u64], first: u64, count: u64) -> u64 {
 
 // A frame's nodes.
 fn tree(row: Row, range: Range, nodes: &[u64]) -> Where {
-    if !is_inside(range) || one_tree(nodes, range.first, range.count) {
-        return outside(row, range);
+    match outside(row, range) {
+        Where::Whole(_) if !one_tree(nodes, range.first, range.count) => {
+            Where::NotOneTree(row, range, tree_rows(nodes, range.first, range.count))
+        }
+        found => found,
     }
-    Where::NotOneTree(row, range, tree_rows(nodes, range.first, range.count))
 }
 
 fn range(program: Program, table: Table, first: u64, count: u64) -> Range {

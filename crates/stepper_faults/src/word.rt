@@ -49,13 +49,12 @@ fn fault_in(row: Row, words: [u64; ROW_WORDS], program: Program) -> Where {
 }
 
 fn find_in(table: Table, program: Program) -> Option<Where> {
-    for (number, words) in program.words(table).chunks(table.width()).enumerate() {
-        if !row_allowed(table, words, program) {
-            let row = Row { table, number };
-            return Some(fault_in(row, whole_row(words), program));
-        }
-    }
-    None
+    program
+        .words(table)
+        .chunks(table.width())
+        .enumerate()
+        .find(|(_, words)| !row_allowed(table, words, program))
+        .map(|(number, words)| fault_in(Row { table, number }, whole_row(words), program))
 }
 
 pub fn find_word(program: Program) -> Option<Where> {

@@ -251,9 +251,10 @@ impl Line {
 // How many of `count` lines are shown where there is room for `most` and one more, which tells of the rest.
 pub fn shown(view: View, count: usize, most: usize) -> usize {
     if view.all || count <= most.wrapping_add(1) {
-        return count;
+        count
+    } else {
+        most
     }
-    most
 }
 
 // The line that tells of the rest.
