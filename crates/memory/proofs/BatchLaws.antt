@@ -1,10 +1,5 @@
 -- Laws of the walk by lists: a loop that fills a list, from its start to its end. Assumes nothing.
-use Rattle.std.proofs.Common.{Some, None}
-use Prim.Native.Nat.{ℕ, zero, suc, ◌+◌, ◌-◌, ◌*◌, ◌<◌, ◌≤◌}
-use mathlib.Core.List.{List, [], ◌∷◌}
-use mathlib.Core.Path.{◌≡◌, refl, sym, ap, ◌∙◌}
-use native.Mathlib.Omega.{arith}
-use lib.ListN.{length}
+use Rattle.std.proofs.Common.{ℕ, suc, ◌+◌, ◌-◌, ◌*◌, ◌<◌, ◌≤◌, List, ◌≡◌, ◌∙◌, arith, length, Some, None}
 use lib.Seq.{sets}
 use Rattle.tables.proofs.FirstLaws.{left_suc}
 use Rattle.memory.specs.References.{next_of}
@@ -49,12 +44,12 @@ module _ (nodes : List ℕ) (room place count : ℕ) (rows : List ℕ) where
     unfolding rows_words
     left_end f = step ∙ (let z : count + 0 ≡ count = omega arith in rw (f, z))
 
-    -- a reference goes into the list's next row, whose first word is at
-    pub left-turn : (r : MemoryReference) (at : ℕ) → s.found ≡ Some r → at ≡ count * reference_width
-        → left_from nodes room place count rows ≡ left_from nodes room s.place (count + 1) (sets rows at (reference_words r))
+    -- a reference goes into the list's next row
+    pub left-turn : (r : MemoryReference) → s.found ≡ Some r
+        → left_from nodes room place count rows ≡ left_from nodes room s.place (count + 1) (sets rows (count * reference_width) (reference_words r))
     unfolding rows_words
-    left-turn r at f w =
+    left-turn r f =
         let rest = batch_of nodes s.place (room - (count + 1)) in
         let a : count + suc (length rest.references) ≡ count + 1 + length rest.references = omega arith in
         let b : (count + 1) * reference_width ≡ suc (suc (count * reference_width)) = omega arith in
-        step ∙ rw (f, a, b, w)
+        step ∙ rw (f, a, b)

@@ -1,14 +1,7 @@
 -- The references of exactly one tree are its address rows, in row order. Assumes nothing.
-use Prim.Native.Nat.{ℕ, zero, suc, ◌+◌, ◌-◌, ◌*◌, ◌≤◌}
-use mathlib.Core.Bool.{Bool, true, false, cond}
-use mathlib.Core.List.{List, ◌∷◌, ◌++◌}
-use mathlib.Core.Path.{◌≡◌, refl, sym, ap, ◌∙◌}
-use native.Mathlib.Numerals.{add-one}
-use native.Mathlib.Omega.{arith}
-use borrow.Author.Tests.{ne_eqb}
-use lib.Dec.{eqb}
+use Rattle.std.proofs.Common.{ℕ, zero, suc, ◌+◌, ◌-◌, ◌≤◌, Bool, true, false, cond, List, ◌∷◌, ◌++◌, ◌≡◌, refl, sym, ap, ◌∙◌, add-one, arith, ne_eqb, eqb}
 use Rattle.tables.proofs.FirstLaws.{never}
-use Rattle.tables.specs.Rows.{node_width, node_rows, node_tag}
+use Rattle.tables.specs.Rows.{node_rows, node_tag}
 use Rattle.tables.specs.Tree.{arity_of, trees_from, inside, one_tree}
 use Rattle.tables.proofs.Passed.{both}
 use Rattle.tables.proofs.TreeLaws.{arity_le, inside_le}
@@ -23,10 +16,6 @@ module _ (nodes : List ℕ) (i n : ℕ) (e : one_tree nodes i n ≡ true) where
   -- a range that is one tree lies in its table
   pub one_tree-inside : i + n ≤ node_rows nodes
   one_tree-inside = inside_le i n (node_rows nodes) parts.0
-
--- the part of a table that count rows are
-pub part_words : (first count : ℕ) → (first + count) * node_width - first * node_width ≡ count * node_width
-part_words first count = omega arith
 
 cond-append : (b : Bool) (x : MemoryReference) (l m : List MemoryReference) → cond b (x ∷ (l ++ m)) (l ++ m) ≡ cond b (x ∷ l) l ++ m
 cond-append true x l m = refl

@@ -1,12 +1,5 @@
 -- What the calls of a walk hand out, one after the other. Assumes nothing.
-use Rattle.std.proofs.Common.{Option, Some, None}
-use Prim.Native.Nat.{ℕ, zero, suc, ◌+◌, ◌-◌, ◌*◌, ◌<◌, ◌≤◌}
-use mathlib.Core.Bool.{Bool, true, false, cond}
-use mathlib.Core.List.{List, [], ◌∷◌}
-use mathlib.Core.Path.{◌≡◌, refl, sym, ap, ◌∙◌}
-use native.Mathlib.Omega.{arith}
-use lib.ListN.{length, get_or, take, length-take, length-drop}
-use lib.Seq.{take_all, get_or-take, get_or-drop}
+use Rattle.std.proofs.Common.{ℕ, zero, suc, ◌+◌, ◌-◌, ◌*◌, ◌<◌, ◌≤◌, Bool, true, false, cond, List, [], ◌∷◌, ◌≡◌, refl, sym, ap, ◌∙◌, arith, length, get_or, take, length-take, length-drop, take_all, get_or-take, get_or-drop, Option, Some, None}
 use Rattle.tables.specs.First.{first}
 use Rattle.tables.specs.Rows.{node_rows}
 use Rattle.tables.specs.Tree.{one_tree}

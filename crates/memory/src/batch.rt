@@ -4,8 +4,7 @@ ghost use Rattle.std.proofs.lemmas.List.Edits.{sets};
 ghost use Rattle.tables.specs.Tree.{one_tree};
 ghost use Rattle.memory.specs.Batch.{reference_width, reference_words, handing, hand_out, hand_out_in};
 
-use crate::{MemoryReference, next_from};
-use tables::rows::NODE_WIDTH;
+use crate::{MemoryReference, next_from, nodes_in};
 
 // Words in a row of a list of references: name, index.
 pub const REFERENCE_WIDTH: usize = 2;
@@ -30,24 +29,21 @@ fn put_reference(rows: &mut [u64], at: usize, reference: MemoryReference)
 fn references_from(nodes: &[u64], place: usize, rows: &mut [u64]) -> Handed
     ensures { handing result rows.new ≡ hand_out nodes.now place rows.old }
 {
-    let end = rows.len() / REFERENCE_WIDTH * REFERENCE_WIDTH;
-    let mut at = 0;
+    let room = rows.len() / REFERENCE_WIDTH;
     let mut passed = place;
-    while at < end {
+    for count in 0..room {
         let stepped = next_from(nodes, passed);
-        let found = stepped.found;
         passed = stepped.place;
-        let Some(reference) = found else {
+        let Some(reference) = stepped.found else {
             return Handed {
-                count: at / REFERENCE_WIDTH,
+                count,
                 place: passed,
             };
         };
-        put_reference(rows, at, reference);
-        at += REFERENCE_WIDTH;
+        put_reference(rows, count * REFERENCE_WIDTH, reference);
     }
     Handed {
-        count: at / REFERENCE_WIDTH,
+        count: room,
         place: passed,
     }
 }
@@ -63,7 +59,5 @@ pub fn references_in(
     requires { one_tree nodes.now first count ≡ true }
     ensures { handing result rows.new ≡ hand_out_in nodes.now first count place rows.old }
 {
-    let start = first as usize * NODE_WIDTH;
-    let end = (first + count) as usize * NODE_WIDTH;
-    references_from(&nodes[start..end], place, rows)
+    references_from(nodes_in(nodes, first, count), place, rows)
 }

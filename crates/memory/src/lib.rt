@@ -6,7 +6,7 @@ pub mod batch;
 
 ghost use Rattle.std.specs.Prelude.{◌≡◌, true};
 ghost use Rattle.tables.specs.Tree.{one_tree};
-ghost use Rattle.memory.specs.References.{next_of, next_in};
+ghost use Rattle.memory.specs.References.{next_of, nodes_in, next_in};
 ghost use Rattle.memory.specs.Reader.{reader_at, step_of, stepped};
 
 use tables::node_tag::ADDRESS;
@@ -30,8 +30,7 @@ fn next_at(nodes: &[u64], place: usize) -> Stepped
     ensures { result ≡ next_of nodes.now place }
 {
     let rows = nodes.len() / NODE_WIDTH;
-    let mut i = place;
-    while i < rows {
+    for i in place..rows {
         let node = node_at(nodes, i);
         // An address's words are its name and its index.
         if node.tag == ADDRESS {
@@ -44,7 +43,6 @@ fn next_at(nodes: &[u64], place: usize) -> Stepped
                 place: i + 1,
             };
         }
-        i += 1;
     }
     Stepped {
         found: None,
@@ -88,12 +86,20 @@ fn next_from(nodes: &[u64], place: usize) -> Stepped
     }
 }
 
+// The nodes that the `count` rows from `first` on are, which are a tree.
+fn nodes_in(nodes: &[u64], first: u64, count: u64) -> &[u64]
+    requires { one_tree nodes.now first count ≡ true }
+    ensures { result.now ≡ nodes_in nodes.now first count }
+{
+    let start = first as usize * NODE_WIDTH;
+    let end = (first + count) as usize * NODE_WIDTH;
+    &nodes[start..end]
+}
+
 // One step in the tree that the `count` rows from `first` on are: `place` counts its nodes that were passed, 0 at first.
 pub fn next_in(nodes: &[u64], first: u64, count: u64, place: usize) -> Stepped
     requires { one_tree nodes.now first count ≡ true }
     ensures { result ≡ next_in nodes.now first count place }
 {
-    let start = first as usize * NODE_WIDTH;
-    let end = (first + count) as usize * NODE_WIDTH;
-    next_from(&nodes[start..end], place)
+    next_from(nodes_in(nodes, first, count), place)
 }

@@ -1,13 +1,10 @@
--- The size of a value is above 2 ^ -52 where the value is above it or below its negative. Assumes nothing.
-use mathlib.Core.Path.{◌≡◌, refl, sym}
-use mathlib.Core.Bool.{true, false, ◌||◌, or-false}
-use lib.Ieee.{Float, nan, inf, fin, lt, neg}
-use Rattle.reals.specs.Real.{epsilon, size}
+-- The size of a value is the library's absolute value. Assumes nothing.
+use Rattle.std.proofs.Common.{◌≡◌, false, refl}
+use Rattle.std.specs.Float.{Float, nan, inf, fin, float_with_sign}
+use Rattle.reals.specs.Real.{size}
 
-pub either_side : (x : Float) → lt epsilon (size x) ≡ lt epsilon x || lt x (neg epsilon)
-unfolding lt size neg
-either_side nan = refl
-either_side (inf true) = refl
-either_side (inf false) = refl
-either_side (fin true m e) = refl
-either_side (fin false m e) = sym (or-false _)
+pub abs_is : (x : Float) → float_with_sign false x ≡ size x
+unfolding float_with_sign size
+abs_is nan = refl
+abs_is (inf s) = refl
+abs_is (fin s m e) = refl

@@ -1,36 +1,23 @@
 // REAL words: binary64 patterns.
+#![tactic(auto, unfolding(crate::specs::Real::real_add, crate::specs::Real::real_subtract, crate::specs::Real::real_multiply, crate::specs::Real::real_divide, crate::specs::Real::real_negate, crate::specs::Real::real_equal, crate::specs::Real::real_greater_than_or_equal, crate::specs::Real::real_greater_than, crate::specs::Real::real_less_than_or_equal, crate::specs::Real::real_less_than))]
+
 ghost use Rattle.std.specs.Prelude.{◌≡◌};
-ghost use Rattle.reals.specs.Real.{real_is_nan, real_value, real_pattern, real_add, real_subtract, real_multiply, real_divide, real_negate, real_equal, real_greater_than_or_equal, real_greater_than, real_less_than_or_equal, real_less_than, real_above_epsilon};
+ghost use Rattle.reals.specs.Real.{real_value, real_pattern, real_add, real_subtract, real_multiply, real_divide, real_negate, real_equal, real_greater_than_or_equal, real_greater_than, real_less_than_or_equal, real_less_than, real_above_epsilon};
 
-// 2 ^ -52.
-const EPSILON: f64 = 2.220446049250313e-16;
-
-// The pattern of every NaN result.
-const NAN: u64 = 0x7FF8_0000_0000_0000;
-
-// Tested as an integer, since `f64::from_bits` takes no pattern of a NaN: the pattern without its sign is above infinity's.
-fn is_nan(a: u64) -> bool
-    ensures { result ≡ real_is_nan a }
-{
-    a % 0x8000_0000_0000_0000 > 0x7FF0_0000_0000_0000
-}
+use std::num::{f64_from_bits_with_nan, f64_to_bits_with_nan};
 
 // The value of a pattern; a NaN for each pattern of one.
 pub fn value_of(a: u64) -> f64
     ensures { result ≡ real_value a }
 {
-    if is_nan(a) {
-        0.0 / 0.0
-    } else {
-        f64::from_bits(a)
-    }
+    f64_from_bits_with_nan(a)
 }
 
-// The pattern of a value; `NAN` for a NaN, the only value that differs from itself.
+// The pattern of a value; one and the same for each NaN.
 pub fn pattern_of(x: f64) -> u64
     ensures { result ≡ real_pattern x }
 {
-    if x != x { NAN } else { f64::to_bits(x) }
+    f64_to_bits_with_nan(x)
 }
 
 pub fn add(a: u64, b: u64) -> u64
@@ -93,10 +80,9 @@ pub fn less_than(a: u64, b: u64) -> bool
     value_of(a) < value_of(b)
 }
 
-// Whether the size of a value is above 2 ^ -52. A NaN's is not, since both comparisons fail.
+// Whether the size of a value is above 2 ^ -52. A NaN's is not, since the comparison fails.
 pub fn above_epsilon(a: u64) -> bool
     ensures { result ≡ real_above_epsilon a }
 {
-    let x = value_of(a);
-    (x > EPSILON) | (x < -EPSILON)
+    value_of(a).abs() > f64::EPSILON
 }

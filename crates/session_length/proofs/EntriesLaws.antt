@@ -1,11 +1,9 @@
 -- Laws of the entries that are counted. Assumes nothing.
-use Prim.Native.Nat.{ℕ, ◌+◌, ◌*◌, ◌≤◌}
-use mathlib.Core.List.{List, [], ◌∷◌}
-use mathlib.Core.Path.{◌≡◌, refl}
-use native.Mathlib.Omega.{arith}
+use Rattle.std.proofs.Common.{ℕ, ◌+◌, ◌*◌, ◌≤◌, List, [], ◌∷◌, ◌≡◌, refl, ap, ◌∙◌, arith}
 use Rattle.tables.specs.Cases.{case_of}
 use Rattle.tables.specs.Family as family
 use Rattle.tables.specs.Rows.{instruction_at}
+use Rattle.tables.specs.declared.rows.Instruction.{Instruction}
 use Rattle.tables.proofs.Cases.{by_key, past_keys}
 use Rattle.tables.proofs.SumLaws.{sum-next, sum_mono, sum_most}
 use Rattle.session_length.specs.Entries.{entries_by_family, entries_for, entries_before}
@@ -32,6 +30,13 @@ module _ (instructions : List ℕ) where
   pub entries_next : (row : ℕ) → entries_before instructions (row + 1) ≡ entries_before instructions row + entries_for (instruction_at instructions row).family
   unfolding entries_before
   entries_next = sum-next counted
+
+  -- a row's count is added
+  pub entries_turn : (row : ℕ) {entries count : ℕ} {x : Instruction} → entries ≡ entries_before instructions row → x ≡ instruction_at instructions row
+      → count ≡ entries_for x.family → entries + count ≡ entries_before instructions (row + 1)
+  entries_turn row {entries} {count} e r f =
+      let g : count ≡ entries_for (instruction_at instructions row).family = f ∙ ap (λ (x : Instruction). entries_for x.family) r in
+      omega (arith, e, g, entries_next row)
 
   pub entries_mono : (row past : ℕ) → row ≤ past → entries_before instructions row ≤ entries_before instructions past
   unfolding entries_before

@@ -25,11 +25,9 @@ pub fn journal_entries(instructions: &[u64]) -> usize
 {
     let rows = instructions.len() / INSTRUCTION_WIDTH;
     let mut entries = 0;
-    let mut row = 0;
-    while row < rows {
+    for row in 0..rows {
         let x = instruction_at(instructions, row);
         entries += entries_for(x.family);
-        row += 1;
     }
     entries
 }

@@ -15,7 +15,7 @@ use Rattle.session.specs.declared.answer.OpenAnswer.TheVariants.{Refused}
 use Rattle.session.proofs.Prepared.{prepared, tables-looked}
 use Rattle.session.proofs.LeavesLaws.{tail_kept, all_kept}
 use Rattle.session_open.specs.declared.verdict.OpenLook.TheVariants as L
-use Rattle.session_open.specs.Open.{CallsInside, unless_refused, program_verdict, tables_verdict, open_verdict, opening, open_cells, Openable, open_tables}
+use Rattle.session_open.specs.Open.{CallsInside, program_verdict, tables_verdict, open_verdict, opening, open_cells, Openable, open_tables}
 
 -- the program is within its limit, and every CALL's ranges lie in their tables
 pub loaded_calls : {t : Tables} → Loaded t → CallsInside t.externs t.parameters t.arguments t.instructions

@@ -12,11 +12,16 @@ use Rattle.tables.specs.Cells.{cells_in, first_cell, cell_count}
 use Rattle.journal.specs.Cells.{cell_width, held, put}
 use Rattle.journal.specs.declared.cells.Write.{Write}
 use Rattle.journal.proofs.CellsLaws.{held_same, held-other}
+use Rattle.tables.proofs.CellsLaws.{first_cell-within}
 use Rattle.operands.specs.Kinds.{declared_kind, zeros}
 use Rattle.operands.proofs.KindsLaws.{kind_own, length-zeros, zeros-at}
 use Rattle.session_open.specs.Zero.{zero_cell, Zeroed, ZeroedTo}
 
 module _ (regions : List ℕ) where
+  -- a region's cells are of the regions' cells
+  pub region-within : (r : ℕ) {first n : ℕ} → r < region_rows regions → first ≡ first_cell regions r → n ≡ cells_in regions r → first + n ≤ cell_count regions
+  region-within r h e f = omega (arith, first_cell-within regions r h, e, f)
+
   pub zeroed-none : (cells : List ℕ) → ZeroedTo regions cells 0 0
   unfolding first_cell sum_to
   zeroed-none cells = record { first = refl; zeroed = λ k h. absurd (omega arith) }

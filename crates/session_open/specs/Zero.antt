@@ -1,11 +1,9 @@
 -- What the loops that zero the cells have reached.
-use Rattle.std.specs.Prelude.{ℕ, ◌+◌, ◌<◌, List, ◌≡◌}
-use Rattle.tables.specs.Rows.{region_rows}
+use Rattle.std.specs.Prelude.{ℕ, ◌<◌, List, ◌≡◌}
 use Rattle.tables.specs.Cells.{first_cell}
 use Rattle.journal.specs.Cells.{held}
 use Rattle.journal.specs.declared.cells.Write.{Write}
 use Rattle.operands.specs.Kinds.{declared_kind}
-use Rattle.operands.specs.Reach.{Layout}
 
 -- "Open zeroes each cell with its declared kind": cell c
 abbrev pub zero_cell : List ℕ → ℕ → Write

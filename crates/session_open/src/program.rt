@@ -18,15 +18,7 @@ fn no_other(instructions: &[u64]) -> bool
     ensures { result ≡ no_other instructions.now }
 {
     let rows = instructions.len() / INSTRUCTION_WIDTH;
-    let mut row = 0;
-    while row < rows {
-        let x = instruction_at(instructions, row);
-        if is_other(x) {
-            return false;
-        }
-        row += 1;
-    }
-    true
+    (0..rows).all(|row| !is_other(instruction_at(instructions, row)))
 }
 
 // One row: accepted where it is no CALL.
@@ -64,13 +56,11 @@ fn calls_look(
     ensures { look_outcome result ≡ calls_look (call_tables regions.now externs.now parameters.now arguments.now instructions.now) }
 {
     let rows = instructions.len() / INSTRUCTION_WIDTH;
-    let mut row = 0;
-    while row < rows {
+    for row in 0..rows {
         let look = call_look(regions, externs, parameters, arguments, instructions, row);
         if let Look::Refused(number) = look {
             return Look::Refused(number);
         }
-        row += 1;
     }
     Look::Accepted
 }

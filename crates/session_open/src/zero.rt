@@ -16,15 +16,13 @@ fn zero_region(regions: &[u64], cells: &mut [u64], r: usize, first: usize) -> us
 {
     let region = region_at(regions, r);
     let past = first + cells_in(regions, r);
-    let mut cell = first;
-    while cell < past {
+    for cell in first..past {
         let zero = Write {
             cell,
             kind: region.kind,
             word: 0,
         };
         put_cell(cells, zero);
-        cell += 1;
     }
     past
 }
@@ -35,9 +33,7 @@ pub fn zero_cells(regions: &[u64], cells: &mut [u64])
 {
     let rows = regions.len() / REGION_WIDTH;
     let mut first = 0;
-    let mut r = 0;
-    while r < rows {
+    for r in 0..rows {
         first = zero_region(regions, cells, r, first);
-        r += 1;
     }
 }

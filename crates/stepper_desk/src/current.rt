@@ -24,8 +24,7 @@ pub fn row_at(instructions: &[u64], row: usize) -> Current {
 }
 
 pub fn is_call(instructions: &[u64], row: usize) -> bool {
-    let current = row_at(instructions, row);
-    match current {
+    match row_at(instructions, row) {
         Current::Row(x) => x.family == CALL,
         Current::End => false,
     }

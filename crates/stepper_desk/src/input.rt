@@ -18,18 +18,12 @@ fn read_byte(byte: &mut [u8; 1]) -> bool {
     io::read_full(STDIN_FILENO, byte) == 1
 }
 
-fn keep(line: &mut [u8; LINE], at: usize, byte: u8) {
-    if at < LINE {
-        line[at] = byte;
-    }
-}
+// Nothing says that a line ends, so no more bytes are read than this.
+const MOST_BYTES: usize = 1_000_000;
 
-// The loop ends by its count, since nothing says that a line does.
 fn read_line(line: &mut [u8; LINE]) -> Typed {
     let mut byte = [0; 1];
-    let mut length = 0;
-    let mut turns: usize = 1000000;
-    while turns > 0 {
+    for length in 0..MOST_BYTES {
         if !read_byte(&mut byte) {
             return Typed {
                 length,
@@ -37,14 +31,17 @@ fn read_line(line: &mut [u8; LINE]) -> Typed {
             };
         }
         if byte[0] == b'\n' {
-            break;
+            return Typed {
+                length,
+                ended: false,
+            };
         }
-        keep(line, length, byte[0]);
-        length = std::num::wrapping_add_usize(length, 1);
-        turns -= 1;
+        if let Some(place) = line.get_mut(length) {
+            *place = byte[0];
+        }
     }
     Typed {
-        length,
+        length: MOST_BYTES,
         ended: false,
     }
 }
@@ -62,7 +59,7 @@ pub fn ask(prompt: &[u8], line: &mut [u8; LINE], view: View) -> Typed {
         text(part(line, 0, typed.length));
     }
     // A terminal echoes no end of the line where the input ends.
-    if view.echo | typed.ended {
+    if view.echo || typed.ended {
         byte(b'\n');
     }
     typed

@@ -1,6 +1,6 @@
 // What a line asks for, and what a key needs.
-use crate::state::Desk;
-use script::line::{byte_at, part, word_at};
+use crate::state::{Desk, State};
+use script::line::{part, word_at};
 use stepper_lines::print::{style, text};
 use stepper_tables::word::{Written, integer};
 
@@ -25,21 +25,13 @@ pub enum Key {
 
 impl Key {
     pub fn steps(self) -> bool {
-        match self {
-            Key::Forward => true,
-            Key::Run(_) => true,
-            Key::Back => true,
-            Key::Reset => true,
-            _ => false,
-        }
+        matches!(self, Key::Forward | Key::Run(_) | Key::Back | Key::Reset)
     }
 
     // Whether the screen is shown after it.
     pub fn shows(self) -> bool {
         match self {
-            Key::Bits => true,
-            Key::More => true,
-            Key::Open => true,
+            Key::Bits | Key::More | Key::Open => true,
             _ => self.steps(),
         }
     }
@@ -65,11 +57,11 @@ fn key_by(byte: u8) -> Key {
 fn run_by(line: &[u8], at: usize) -> Key {
     let word = word_at(line, at, line.len());
     let more = word_at(line, word.end, line.len());
-    if (more.start < more.end) | (byte_at(line, word.start) == b'-') {
+    let steps = part(line, word.start, word.end);
+    if more.start < more.end || steps.starts_with(b"-") {
         return Key::NoAllowance;
     }
-    let written = integer(part(line, word.start, word.end));
-    match written {
+    match integer(steps) {
         Written::Word(allowance) => Key::Run(allowance),
         Written::Not(_) => Key::NoAllowance,
     }
@@ -78,17 +70,12 @@ fn run_by(line: &[u8], at: usize) -> Key {
 // The line's key: its first word, where that is one byte.
 pub fn key_of(line: &[u8]) -> Key {
     let word = word_at(line, 0, line.len());
-    if word.start >= word.end {
-        return Key::Forward;
+    match part(line, word.start, word.end) {
+        [] => Key::Forward,
+        [b'g'] => run_by(line, word.end),
+        [byte] => key_by(*byte),
+        _ => Key::Unknown,
     }
-    if word.end != std::num::wrapping_add_usize(word.start, 1) {
-        return Key::Unknown;
-    }
-    let byte = byte_at(line, word.start);
-    if byte == b'g' {
-        return run_by(line, word.end);
-    }
-    key_by(byte)
 }
 
 pub fn no_allowance() {
@@ -101,16 +88,14 @@ pub fn no_file() {
 
 // Keys that step need an opened program.
 pub fn is_open(desk: Desk) -> bool {
-    if desk.is_opened() {
-        return true;
+    match desk.state {
+        State::Opened => return true,
+        State::NoFile => no_file(),
+        State::Refused(_) => {
+            style(desk.view, b"31");
+            text(b"the program is turned down, so there is no step: o FILE opens another\n");
+            style(desk.view, b"0")
+        }
     }
-    if !desk.has_file() {
-        no_file();
-        return false;
-    }
-    let view = desk.view;
-    style(view, b"31");
-    text(b"the program is turned down, so there is no step: o FILE opens another\n");
-    style(view, b"0");
     false
 }

@@ -5,7 +5,7 @@ use crate::state::{Desk, JOURNAL_WORDS, State, TEXT_BYTES};
 use crate::trouble::turned_down;
 use journal::cells::CELL_WIDTH;
 use journal::entries::ENTRY_WIDTH;
-use script::line::{least, part};
+use script::line::part;
 use std::fs::File;
 use std::io::Read;
 use std::rt::Files;
@@ -41,16 +41,15 @@ fn memory_words(memory: Memory, cells: usize) -> usize
 fn lent(desk: Desk, reader: Reader, cells: usize) -> Desk
     requires { cells ≤ 4096 }
 {
-    let mut next = desk;
     let lengths = reader.lengths;
-    let memory = reader.memory;
-    let view = desk.view;
-    let named = view.with_names(reader.names);
-    next.lengths = lengths;
-    next.memory = memory_words(memory, cells);
-    next.journal = least(reader.entries, JOURNAL_WORDS / ENTRY_WIDTH) * ENTRY_WIDTH;
-    next.view = named;
-    next.stated(State::Opened)
+    Desk {
+        lengths,
+        memory: memory_words(reader.memory, cells),
+        journal: reader.entries.min(JOURNAL_WORDS / ENTRY_WIDTH) * ENTRY_WIDTH,
+        view: desk.view.with_names(reader.names),
+        state: State::Opened,
+        ..desk
+    }
 }
 
 fn read_tables(
@@ -60,13 +59,11 @@ fn read_tables(
     desk: Desk,
 ) -> Desk {
     let reader = read_file(source, names, tables);
-    let lengths = reader.lengths;
-    let outcome = reader.outcome;
-    match outcome {
+    match reader.outcome {
         Outcome::Taken => lent(
             desk,
             reader,
-            cells_of(table(tables, Table::Regions, lengths)),
+            cells_of(table(tables, Table::Regions, reader.lengths)),
         ),
         Outcome::Not(trouble) => turned_down(desk, source, reader, trouble),
     }
@@ -121,7 +118,9 @@ pub fn load(
     if count >= TEXT_BYTES {
         return too_long(path, desk);
     }
-    let mut next = desk;
-    next.text = count;
-    read_tables(part(buffer, 0, count), names, tables, next)
+    let read = Desk {
+        text: count,
+        ..desk
+    };
+    read_tables(part(buffer, 0, count), names, tables, read)
 }

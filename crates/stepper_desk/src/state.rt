@@ -42,86 +42,53 @@ pub struct Desk {
 
 impl Desk {
     pub fn placed(self, position: Position) -> Desk {
-        let mut next = self;
-        next.position = position;
-        next
-    }
-
-    // A field that is an enum cannot be assigned, so the desk is built anew.
-    fn told(self, state: State, enough: Enough) -> Desk {
-        let lengths = self.lengths;
-        let position = self.position;
-        let view = self.view;
-        Desk {
-            text: self.text,
-            lengths,
-            memory: self.memory,
-            journal: self.journal,
-            enough,
-            position,
-            view,
-            state,
-            going: self.going,
-        }
+        Desk { position, ..self }
     }
 
     pub fn stated(self, state: State) -> Desk {
-        let enough = self.enough;
-        self.told(state, enough)
+        Desk { state, ..self }
     }
 
     pub fn measured(self, enough: Enough) -> Desk {
-        let state = self.state;
-        self.told(state, enough)
+        Desk { enough, ..self }
     }
 
     pub fn has_file(self) -> bool {
-        let state = self.state;
-        match state {
-            State::NoFile => false,
-            _ => true,
-        }
+        !matches!(self.state, State::NoFile)
     }
 
     pub fn is_opened(self) -> bool {
-        let state = self.state;
-        match state {
-            State::Opened => true,
-            _ => false,
-        }
+        matches!(self.state, State::Opened)
     }
 
     pub fn viewed(self, view: View) -> Desk {
-        let mut next = self;
-        next.view = view;
-        next
+        Desk { view, ..self }
     }
 
     pub fn stopped(self) -> Desk {
-        let mut next = self;
-        next.going = false;
-        next
+        Desk {
+            going: false,
+            ..self
+        }
     }
 }
 
 pub fn new_desk(colour: bool, echo: bool) -> Desk {
-    let view = View {
-        names: 0,
-        bits: false,
-        all: false,
-        cells: false,
-        colour,
-        echo,
-    };
-    let position = Position::first();
     Desk {
         text: 0,
         lengths: [0; TABLES],
         memory: 0,
         journal: 0,
         enough: Enough::Untold,
-        position,
-        view,
+        position: Position::first(),
+        view: View {
+            names: 0,
+            bits: false,
+            all: false,
+            cells: false,
+            colour,
+            echo,
+        },
         state: State::NoFile,
         going: true,
     }

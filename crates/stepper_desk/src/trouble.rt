@@ -1,6 +1,6 @@
 // Why a line of a file is not taken: its number, its word and what to write.
 use crate::state::{Desk, State};
-use script::line::{Word, byte_at, least, part};
+use script::line::part;
 use stepper_lines::print::{byte, number, style, text};
 use stepper_tables::file::Reader;
 use stepper_tables::row::Trouble;
@@ -21,58 +21,61 @@ fn printable(byte: u8) -> u8 {
 }
 
 fn word_text(word: &[u8]) {
-    let shown = least(word.len(), MOST_SHOWN);
-    let mut i = 0;
-    while i < shown {
-        byte(printable(byte_at(word, i)));
-        i += 1;
+    for shown in word.iter().take(MOST_SHOWN) {
+        byte(printable(*shown));
     }
     if word.len() > MOST_SHOWN {
         text(b"..");
     }
 }
 
-fn needed(place: Place) {
+// What a place needs.
+fn needed(place: Place) -> &'static [u8] {
     match place {
-        Place::Name => text(b"a name"),
-        Place::Label => text(b"a label"),
-        Place::Kind => text(b"a kind"),
-        Place::ReturnKind => text(b"a return kind"),
-        Place::Mutability => text(b"mutable or immutable"),
-        Place::Shape => text(b"a shape"),
-        Place::Tag => text(b"a tag"),
-        Place::Form => text(b"a form"),
-        Place::Operation => text(b"an operation"),
-        Place::Operator => text(b"the operator's number"),
-        Place::SourceForm => text(b"a source form"),
-        Place::Whole => text(b"a whole number"),
-        Place::Real => text(b"a REAL"),
-        Place::Unused => text(b"-"),
+        Place::Name => b"a name",
+        Place::Label => b"a label",
+        Place::Kind => b"a kind",
+        Place::ReturnKind => b"a return kind",
+        Place::Mutability => b"mutable or immutable",
+        Place::Shape => b"a shape",
+        Place::Tag => b"a tag",
+        Place::Form => b"a form",
+        Place::Operation => b"an operation",
+        Place::Operator => b"the operator's number",
+        Place::SourceForm => b"a source form",
+        Place::Whole => b"a whole number",
+        Place::Real => b"a REAL",
+        Place::Unused => b"-",
     }
+}
+
+// What a place allows, where its name does not say it.
+fn allowed(place: Place) -> &'static [u8] {
+    match place {
+        Place::Name => b": letters, digits, _ and -, a letter first",
+        Place::Label => b": @ and a name, as @again",
+        Place::Kind => b": BIT, INTEGER, OCTET or REAL",
+        Place::ReturnKind => b": BIT, INTEGER, OCTET, REAL or none",
+        Place::Mutability | Place::Operator => b"",
+        Place::Shape => b": scalar, fixed or variable",
+        Place::Tag => b": address, function, infix, number, pi, prefix or variable",
+        Place::Form => b": identifier, reference or immediate",
+        Place::Operation => b", such as MOVE, in capitals",
+        Place::SourceForm => b": integer, real, reference or none",
+        Place::Whole => b", without a point",
+        Place::Real => b": with a point, as 0.0, or its bits as 0x..",
+        Place::Unused => b": this word is unused",
+    }
+}
+
+fn write_needed(place: Place) {
+    text(b"write ");
+    text(needed(place));
     text(b" here");
 }
 
-fn allowed(place: Place) {
-    match place {
-        Place::Name => text(b": letters, digits, _ and -, a letter first"),
-        Place::Label => text(b": @ and a name, as @again"),
-        Place::Kind => text(b": BIT, INTEGER, OCTET or REAL"),
-        Place::ReturnKind => text(b": BIT, INTEGER, OCTET, REAL or none"),
-        Place::Shape => text(b": scalar, fixed or variable"),
-        Place::Tag => text(b": address, function, infix, number, pi, prefix or variable"),
-        Place::Form => text(b": identifier, reference or immediate"),
-        Place::Operation => text(b", such as MOVE, in capitals"),
-        Place::SourceForm => text(b": integer, real, reference or none"),
-        Place::Whole => text(b", without a point"),
-        Place::Real => text(b": with a point, as 0.0, or its bits as 0x.."),
-        Place::Unused => text(b": this word is unused"),
-        _ => {}
-    }
-}
-
 fn mnemonic(family: u64, operator: u64) {
-    let mnemonics = MNEMONICS;
-    text(item(line_of(&mnemonics, family), operator));
+    text(item(line_of(&MNEMONICS, family), operator));
 }
 
 fn fault_text(fault: Fault, word: &[u8]) {
@@ -95,27 +98,27 @@ fn fault_text(fault: Fault, word: &[u8]) {
             mnemonic(family, operator)
         }
         Fault::Operation(place) => {
-            text(b"an operation stands first on its row; write ");
-            needed(place)
+            text(b"an operation stands first on its row; ");
+            write_needed(place)
         }
         Fault::Expected(place) => {
-            text(b"write ");
-            needed(place);
-            allowed(place)
+            write_needed(place);
+            text(allowed(place))
         }
         Fault::Comment => text(b"a comment begins in the word; write a blank before #"),
     }
 }
 
-fn row_text(table: Table) {
+// The words of a table's row.
+fn row_text(table: Table) -> &'static [u8] {
     match table {
-        Table::Regions => text(b"3 words: name, kind, length"),
-        Table::Externs => text(b"4 words: name, return kind, first parameter, how many"),
-        Table::Parameters => text(b"5 words: name, mutable or immutable, shape, kind, length"),
-        Table::Nodes => text(b"3 words: tag and two words, - where one is unused"),
-        Table::Arguments => text(b"3 words: form and two words, - where one is unused"),
+        Table::Regions => b"3 words: name, kind, length",
+        Table::Externs => b"4 words: name, return kind, first parameter, how many",
+        Table::Parameters => b"5 words: name, mutable or immutable, shape, kind, length",
+        Table::Nodes => b"3 words: tag and two words, - where one is unused",
+        Table::Arguments => b"3 words: form and two words, - where one is unused",
         Table::Instructions => {
-            text(b"8 words: operation, two and two for operands, source form and two")
+            b"8 words: operation, two and two for operands, source form and two"
         }
     }
 }
@@ -125,7 +128,7 @@ fn trouble_text(trouble: Trouble, word: &[u8]) {
         Trouble::Word(fault) => fault_text(fault, word),
         Trouble::RowOf(table) => {
             text(b"write ");
-            row_text(table)
+            text(row_text(table))
         }
         Trouble::Count => text(b"too many or too few words; docs/FORMAT.md has the line's"),
         Trouble::NoHeading => {
@@ -152,14 +155,13 @@ fn trouble_text(trouble: Trouble, word: &[u8]) {
 
 // A line that is not taken: the desk has no file.
 pub fn turned_down(desk: Desk, source: &[u8], reader: Reader, trouble: Trouble) -> Desk {
-    let view = desk.view;
-    let word: Word = reader.word;
-    style(view, b"31");
+    let word = reader.word;
+    style(desk.view, b"31");
     text(b"line ");
     number(reader.line as u64);
     text(b": ");
     trouble_text(trouble, part(source, word.start, word.end));
     byte(b'\n');
-    style(view, b"0");
+    style(desk.view, b"0");
     desk.stated(State::NoFile)
 }

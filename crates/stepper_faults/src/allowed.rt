@@ -17,7 +17,7 @@ impl Allowed {
         match self {
             Allowed::Any => true,
             Allowed::UpTo(last) => word <= last,
-            Allowed::Either(one, other) => (word == one) | (word == other),
+            Allowed::Either(one, other) => word == one || word == other,
             Allowed::Alone(only) => word == only,
             Allowed::Unused => word == 0,
         }
@@ -38,13 +38,11 @@ fn last_operator(family: u64) -> u64 {
 
 fn source_forms(family: u64) -> Allowed {
     match family {
-        family::ARITHMETIC => Allowed::UpTo(source::REFERENCE),
-        family::COMPARISON => Allowed::UpTo(source::REFERENCE),
+        family::ARITHMETIC | family::COMPARISON | family::MOVE | family::STORE => {
+            Allowed::UpTo(source::REFERENCE)
+        }
         family::BINARY_LOGIC => Allowed::Either(source::INTEGER_LITERAL, source::REFERENCE),
-        family::MOVE => Allowed::UpTo(source::REFERENCE),
-        family::LOAD => Allowed::Alone(source::REFERENCE),
-        family::STORE => Allowed::UpTo(source::REFERENCE),
-        family::CONVERT => Allowed::Alone(source::REFERENCE),
+        family::LOAD | family::CONVERT => Allowed::Alone(source::REFERENCE),
         _ => Allowed::Alone(source::NONE),
     }
 }
@@ -52,8 +50,7 @@ fn source_forms(family: u64) -> Allowed {
 // `family` is an instruction's; no other table asks for it.
 pub fn words_at(place: Place, family: u64) -> Allowed {
     match place {
-        Place::Name => Allowed::Any,
-        Place::Label => Allowed::Any,
+        Place::Name | Place::Label | Place::Whole | Place::Real => Allowed::Any,
         Place::Kind => Allowed::UpTo(kind::REAL),
         Place::ReturnKind => Allowed::UpTo(parameter_shape::NO_RETURN),
         Place::Mutability => Allowed::UpTo(1),
@@ -63,8 +60,6 @@ pub fn words_at(place: Place, family: u64) -> Allowed {
         Place::Operation => Allowed::UpTo(LAST_FAMILY),
         Place::Operator => Allowed::UpTo(last_operator(family)),
         Place::SourceForm => source_forms(family),
-        Place::Whole => Allowed::Any,
-        Place::Real => Allowed::Any,
         Place::Unused => Allowed::Unused,
     }
 }

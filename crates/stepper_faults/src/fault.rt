@@ -1,12 +1,11 @@
 // Where a refusal 1, 2, 3, 20, 21 or 22 lies. Rows and columns count from 0.
 use stepper_words::heading::Table;
 
-// A row, and where its words begin in its table.
+// A row of a table, by its number.
 #[derive(Clone, Copy)]
 pub struct Row {
     pub table: Table,
     pub number: usize,
-    pub at: usize,
 }
 
 // Rows of a table that a row asks for, and how many the table has.
@@ -62,40 +61,18 @@ pub enum Where {
 }
 
 impl Where {
-    // This one, or the other where this is nowhere.
-    pub fn or(self, other: Where) -> Where {
-        match self {
-            Where::Nowhere => other,
-            _ => self,
-        }
-    }
-
-    pub fn is_somewhere(self) -> bool {
-        match self {
-            Where::Nowhere => false,
-            _ => true,
-        }
-    }
-
-    pub fn is_outside(self) -> bool {
-        match self {
-            Where::Outside(_, _) => true,
-            _ => false,
-        }
-    }
-
     // The table that it lies in.
     pub fn table(self) -> Table {
         match self {
-            Where::NotWholeRows(table, _, _) => table,
-            Where::OverLimit(table, _, _) => table,
-            Where::Word(row, _) => row.table,
-            Where::Outside(row, _) => row.table,
-            Where::NotOneTree(row, _, _) => row.table,
-            Where::Whole(row) => row.table,
-            Where::SameName(table, _, _, _) => table,
-            Where::Jump(row, _) => row.table,
-            Where::Conversion(row, _) => row.table,
+            Where::NotWholeRows(table, _, _)
+            | Where::OverLimit(table, _, _)
+            | Where::SameName(table, _, _, _) => table,
+            Where::Word(row, _)
+            | Where::Outside(row, _)
+            | Where::NotOneTree(row, _, _)
+            | Where::Whole(row)
+            | Where::Jump(row, _)
+            | Where::Conversion(row, _) => row.table,
             Where::Nowhere => Table::Regions,
         }
     }

@@ -2,6 +2,7 @@
 use crate::fault::Where;
 use crate::look::{find_condition, find_conversion, find_label};
 use crate::name::find_name;
+use crate::program::Program;
 use crate::shape::find_shape;
 use crate::word::find_word;
 use tables::refusal::{
@@ -17,13 +18,22 @@ pub fn find(
     arguments: &[u64],
     instructions: &[u64],
 ) -> Where {
-    match refusal {
-        TABLE_SHAPE => find_shape(regions, externs, parameters, nodes, arguments, instructions),
-        WORD_NOT_ALLOWED => find_word(regions, externs, parameters, nodes, arguments, instructions),
-        NAME_TWICE => find_name(regions, externs),
-        UNFIT_LABELS => find_label(regions, instructions),
+    let program = Program {
+        regions,
+        externs,
+        parameters,
+        nodes,
+        arguments,
+        instructions,
+    };
+    let found = match refusal {
+        TABLE_SHAPE => find_shape(program),
+        WORD_NOT_ALLOWED => find_word(program),
+        NAME_TWICE => find_name(program),
+        UNFIT_LABELS => find_label(instructions),
         CONDITION_NOT_BIT => find_condition(regions, instructions),
         UNFIT_CONVERSION => find_conversion(regions, instructions),
-        _ => Where::Nowhere,
-    }
+        _ => None,
+    };
+    found.unwrap_or(Where::Nowhere)
 }

@@ -1,49 +1,38 @@
 // Refusal 1: the first table that is not whole rows, or over its limit.
-ghost use Rattle.std.specs.Prelude.{◌<◌};
-
 use crate::fault::Where;
+use crate::program::{Program, TABLES};
 use loader::shape::whole_rows;
 use stepper_words::heading::Table;
 use tables::rows::{
-    ARGUMENT_LIMIT, ARGUMENT_WIDTH, EXTERN_LIMIT, EXTERN_WIDTH, INSTRUCTION_LIMIT,
-    INSTRUCTION_WIDTH, NODE_LIMIT, NODE_WIDTH, PARAMETER_LIMIT, PARAMETER_WIDTH, REGION_LIMIT,
-    REGION_WIDTH,
+    ARGUMENT_LIMIT, EXTERN_LIMIT, INSTRUCTION_LIMIT, NODE_LIMIT, PARAMETER_LIMIT, REGION_LIMIT,
 };
 
-fn shape(table: Table, words: &[u64], width: usize, limit: usize) -> Where
-    requires { 0 < width }
-{
-    if whole_rows(words, width, limit) {
-        return Where::Nowhere;
+// How many rows a table may have.
+fn limit_of(table: Table) -> usize {
+    match table {
+        Table::Regions => REGION_LIMIT,
+        Table::Externs => EXTERN_LIMIT,
+        Table::Parameters => PARAMETER_LIMIT,
+        Table::Nodes => NODE_LIMIT,
+        Table::Arguments => ARGUMENT_LIMIT,
+        Table::Instructions => INSTRUCTION_LIMIT,
     }
-    if words.len() % width == 0 {
-        return Where::OverLimit(table, words.len() / width, limit);
-    }
-    Where::NotWholeRows(table, words.len(), width)
 }
 
-pub fn find_shape(
-    regions: &[u64],
-    externs: &[u64],
-    parameters: &[u64],
-    nodes: &[u64],
-    arguments: &[u64],
-    instructions: &[u64],
-) -> Where {
-    shape(Table::Regions, regions, REGION_WIDTH, REGION_LIMIT)
-        .or(shape(Table::Externs, externs, EXTERN_WIDTH, EXTERN_LIMIT))
-        .or(shape(
-            Table::Parameters,
-            parameters,
-            PARAMETER_WIDTH,
-            PARAMETER_LIMIT,
-        ))
-        .or(shape(Table::Nodes, nodes, NODE_WIDTH, NODE_LIMIT))
-        .or(shape(Table::Arguments, arguments, ARGUMENT_WIDTH, ARGUMENT_LIMIT))
-        .or(shape(
-            Table::Instructions,
-            instructions,
-            INSTRUCTION_WIDTH,
-            INSTRUCTION_LIMIT,
-        ))
+fn shape(table: Table, words: &[u64]) -> Option<Where> {
+    let width = table.width();
+    let limit = limit_of(table);
+    if whole_rows(words, width, limit) {
+        return None;
+    }
+    if words.len() % width == 0 {
+        return Some(Where::OverLimit(table, words.len() / width, limit));
+    }
+    Some(Where::NotWholeRows(table, words.len(), width))
+}
+
+pub fn find_shape(program: Program) -> Option<Where> {
+    TABLES
+        .iter()
+        .find_map(|table| shape(*table, program.words(*table)))
 }

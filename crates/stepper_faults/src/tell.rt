@@ -1,8 +1,8 @@
 // Where a refusal lies, in words. No line is longer than 80 columns, whatever the words are.
 use crate::allowed::{Allowed, words_at};
 use crate::fault::{Range, Row, Where};
-use crate::known::{heading, row_head, shown_name};
-use crate::row::{row_from, whole_row};
+use crate::known::{Names, heading, row_head};
+use crate::row::whole_row;
 use crate::tell_convert::tell_convert;
 use crate::tell_jump::tell_jump;
 use stepper_lines::print::{byte, line, number, text};
@@ -67,21 +67,19 @@ fn allowed_words(words: Allowed) {
 }
 
 fn word_line(row: Row, words: [u64; ROW_WORDS], column: usize) {
-    let table = row.table;
-    let place = place::place_of(table, words, column);
+    let place = place::place_of(row.table, words, column);
     text(b":\n  word ");
-    number(std::num::wrapping_add_u64(column as u64, 1));
+    number((column as u64).wrapping_add(1));
     text(b", the ");
-    column_name(table, column as u64);
+    column_name(row.table, column as u64);
     text(b", is ");
     number(word_of(&words, column));
     allowed_words(words_at(place, words[0]));
 }
 
 fn range_line(range: Range) {
-    let table = range.table;
     text(b"\n  ");
-    heading(table);
+    heading(range.table);
     text(b" from row ");
     number(range.first);
     text(b", count ");
@@ -115,19 +113,13 @@ fn tell_row(at: Where, words: [u64; ROW_WORDS]) {
     }
 }
 
-fn tell_in_row(
-    source: &[u8],
-    names: &[u64; NAME_WORDS],
-    view: View,
-    at: Where,
-    row: Row,
-    table: &[u64],
-) {
-    let words = whole_row(row_from(table, row.at, ROW_WORDS));
-    row_head(source, names, view, row, words);
+fn tell_in_row(names: Names, at: Where, row: Row, table: &[u64]) {
+    let words = table.chunks(row.table.width()).nth(row.number);
+    let words = whole_row(words.unwrap_or(&[]));
+    row_head(names, row, words);
     match at {
-        Where::Jump(_, wrong) => tell_jump(source, names, view, wrong),
-        Where::Conversion(_, wrong) => tell_convert(source, names, view, wrong),
+        Where::Jump(_, wrong) => tell_jump(names, wrong),
+        Where::Conversion(_, wrong) => tell_convert(names, wrong),
         _ => tell_row(at, words),
     }
 }
@@ -152,15 +144,7 @@ fn tell_rows(which: Table, rows: usize, limit: usize) {
     grouped(limit);
 }
 
-fn tell_pair(
-    source: &[u8],
-    names: &[u64; NAME_WORDS],
-    view: View,
-    which: Table,
-    n: u64,
-    first: usize,
-    second: usize,
-) {
+fn tell_pair(names: Names, which: Table, n: u64, first: usize, second: usize) {
     heading(which);
     text(b", rows ");
     number(first as u64);
@@ -170,24 +154,27 @@ fn tell_pair(
         Table::Instructions => text(b" have the same label (@"),
         _ => text(b" have the same name ("),
     }
-    shown_name(source, names, view, n);
+    names.show(n);
     byte(b')');
 }
 
 // `table` has the words of the table that it lies in.
 pub fn tell(source: &[u8], names: &[u64; NAME_WORDS], view: View, at: Where, table: &[u64]) {
+    let names = Names {
+        source,
+        places: names,
+        count: view.names,
+    };
     match at {
         Where::NotWholeRows(which, words, width) => tell_words(which, words, width),
         Where::OverLimit(which, rows, limit) => tell_rows(which, rows, limit),
-        Where::SameName(which, n, first, second) => {
-            tell_pair(source, names, view, which, n, first, second)
-        }
-        Where::Word(row, _) => tell_in_row(source, names, view, at, row, table),
-        Where::Outside(row, _) => tell_in_row(source, names, view, at, row, table),
-        Where::NotOneTree(row, _, _) => tell_in_row(source, names, view, at, row, table),
-        Where::Whole(row) => tell_in_row(source, names, view, at, row, table),
-        Where::Jump(row, _) => tell_in_row(source, names, view, at, row, table),
-        Where::Conversion(row, _) => tell_in_row(source, names, view, at, row, table),
+        Where::SameName(which, n, first, second) => tell_pair(names, which, n, first, second),
+        Where::Word(row, _)
+        | Where::Outside(row, _)
+        | Where::NotOneTree(row, _, _)
+        | Where::Whole(row)
+        | Where::Jump(row, _)
+        | Where::Conversion(row, _) => tell_in_row(names, at, row, table),
         Where::Nowhere => return,
     }
     byte(b'\n');

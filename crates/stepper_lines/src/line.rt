@@ -13,27 +13,21 @@ pub const COLUMNS: usize = 80;
 // The length of a line that the screen has no room for.
 const PAST: usize = COLUMNS + 1;
 
-const MARK_BYTES: usize = 17;
-
-const MARK: [u8; MARK_BYTES] = *b" .. (m shows all)";
+const MARK: &[u8] = b" .. (m shows all)";
 
 // The column up to which items are kept, so that the mark fits.
-const LIMIT: usize = COLUMNS - MARK_BYTES;
-
-const SHORT_MARK_BYTES: usize = 7;
+const LIMIT: usize = COLUMNS - MARK.len();
 
 // For a line that has no room for the mark's words.
-const SHORT_MARK: [u8; SHORT_MARK_BYTES] = *b" .. (m)";
+const SHORT_MARK: &[u8] = b" .. (m)";
 
-const TIGHT_LIMIT: usize = COLUMNS - SHORT_MARK_BYTES;
+const TIGHT_LIMIT: usize = COLUMNS - SHORT_MARK.len();
 
 // A name that is longer is shortened to this, so that one change always fits before the short mark: its name, an index of four digits and two REAL values of 24 bytes.
 const LONG_NAME: usize = 14;
 
 // What a shortened name keeps at either end.
 const NAME_END: usize = 6;
-
-const HALF: u64 = 0x8000_0000_0000_0000;
 
 // The bytes so far, how many of them are whole items, up to which column items are kept, whether long names are shortened, and whether the next item is joined to what stands before it.
 #[derive(Clone, Copy)]
@@ -62,78 +56,74 @@ impl Line {
 
     // For a line that did not fit.
     pub fn shortened(self) -> Line {
-        let mut next = self;
-        next.short = true;
-        next
+        Line {
+            short: true,
+            ..self
+        }
     }
 
     // Where the mark's words would cost an item.
     pub fn tight(self) -> Line {
-        let mut next = self;
-        next.limit = TIGHT_LIMIT;
-        next
+        Line {
+            limit: TIGHT_LIMIT,
+            ..self
+        }
     }
 
     // The next item follows at once.
     pub fn join(self) -> Line {
-        let mut next = self;
-        next.joined = true;
-        next
+        Line {
+            joined: true,
+            ..self
+        }
     }
 
     // Before an item.
     pub fn gap(self) -> Line {
-        let mut next = self;
         if self.joined {
-            next.joined = false;
-            return next;
+            return Line {
+                joined: false,
+                ..self
+            };
         }
         self.text(b"  ")
     }
 
     // Writes a full line, which then goes on with the byte.
     fn go_on(self, byte: u8) -> Line {
+        text(&self.bytes);
         let mut next = self;
-        let full = self.bytes;
-        text(&full);
         next.bytes[0] = byte;
         next.length = 1;
         next
     }
 
     pub fn with(self, byte: u8) -> Line {
-        let mut next = self;
-        let length = self.length;
-        let view = self.view;
-        if length < COLUMNS {
-            next.bytes[length] = byte;
-            next.length = length + 1;
+        if self.length < COLUMNS {
+            let mut next = self;
+            next.bytes[self.length] = byte;
+            next.length += 1;
             return next;
         }
-        if view.all {
+        if self.view.all {
             return self.go_on(byte);
         }
-        next.length = PAST;
-        next
+        self.cut()
     }
 
     pub fn text(self, bytes: &[u8]) -> Line {
-        let mut line = self;
-        let mut i = 0;
-        while i < bytes.len() {
-            line = line.with(bytes[i]);
-            i += 1;
-        }
-        line
+        bytes.iter().fold(self, |line, byte| line.with(*byte))
     }
 
     // An item ends here.
     pub fn whole(self) -> Line {
-        let mut next = self;
         if self.length <= self.limit {
-            next.kept = self.length;
+            return Line {
+                kept: self.length,
+                ..self
+            };
         }
-        next
+        self
     }
 
     // Whether there is nothing to cut.
@@ -148,25 +138,23 @@ impl Line {
 
     // Leaves out what would follow.
     pub fn cut(self) -> Line {
-        let mut next = self;
-        next.length = PAST;
-        next
+        Line {
+            length: PAST,
+            ..self
+        }
     }
 
     pub fn print(self) {
-        let bytes = self.bytes;
-        if self.length <= COLUMNS {
-            text(part(&bytes, 0, self.length));
+        if self.fits() {
+            text(part(&self.bytes, 0, self.length));
             return;
         }
-        text(part(&bytes, 0, self.kept));
-        if self.limit == LIMIT {
-            let mark = MARK;
-            text(&mark);
+        text(part(&self.bytes, 0, self.kept));
+        text(if self.limit == LIMIT {
+            MARK
         } else {
-            let mark = SHORT_MARK;
-            text(&mark);
-        }
+            SHORT_MARK
+        });
     }
 
     pub fn end(self) {
@@ -174,38 +162,30 @@ impl Line {
         byte(b'\n');
     }
 
-    fn decimal_digits(self, digits: &[u8; 20], count: usize) -> Line {
-        self.text(part(digits, 0, count))
-    }
-
     pub fn number(self, n: u64) -> Line {
         let mut digits = [0; 20];
         let count = io::decimal(n, &mut digits);
-        self.decimal_digits(&digits, count)
+        self.text(&digits[..count])
     }
 
     // As two's complement.
     pub fn signed(self, n: u64) -> Line {
-        if n < HALF {
+        let value = n.cast_signed();
+        if value >= 0 {
             return self.number(n);
         }
-        self.with(b'-').number(std::num::wrapping_sub_u64(0, n))
-    }
-
-    fn hex_digits(self, digits: &[u8; 16], count: usize) -> Line {
-        self.text(part(digits, 0, count))
+        self.with(b'-').number(value.unsigned_abs())
     }
 
     fn bits(self, n: u64) -> Line {
         let mut digits = [0; 16];
         let count = io::hex(n, 16, &mut digits);
-        self.text(b"0x").hex_digits(&digits, count)
+        self.text(b"0x").text(&digits[..count])
     }
 
     pub fn kind(self, k: u64) -> Line {
-        let kinds = KINDS;
         if k <= REAL {
-            return self.text(item(&kinds, k));
+            return self.text(item(&KINDS, k));
         }
         self.text(b"kind ").number(k)
     }
@@ -215,75 +195,49 @@ impl Line {
     }
 
     pub fn real(self, word: u64) -> Line {
-        let view = self.view;
-        if view.bits {
+        if self.view.bits {
             return self.bits(word);
         }
         let written = text_of(word);
-        let bytes = written.bytes;
-        self.text(part(&bytes, 0, written.length))
+        self.text(part(&written.bytes, 0, written.length))
     }
 
     // A word of a kind. A foreign kind has no text of its own.
     pub fn value(self, k: u64, word: u64) -> Line {
         match k {
-            BIT => self.number(word),
+            BIT | OCTET => self.number(word),
             INTEGER => self.signed(word),
-            OCTET => self.number(word),
             REAL => self.real(word),
             _ => self.text(b"(kind ").number(k).text(b") ").number(word),
         }
     }
 
-    fn ends(self, first: &[u8], last: &[u8]) -> Line {
-        self.text(first).text(b"..").text(last)
-    }
-
-    // A long name by its two ends.
-    fn short_text(self, name: &[u8]) -> Line {
-        let length = name.len();
-        if length <= LONG_NAME {
+    // A name, or its two ends where it is long and long names are shortened.
+    fn name_text(self, name: &[u8]) -> Line {
+        if !self.short || name.len() <= LONG_NAME {
             return self.text(name);
         }
-        self.ends(
-            part(name, 0, NAME_END),
-            part(name, length - NAME_END, length),
-        )
+        self.text(&name[..NAME_END])
+            .text(b"..")
+            .text(&name[name.len() - NAME_END..])
     }
 
-    // The digits of a name that is a number; its mark counts as a byte.
-    fn short_digits(self, digits: &[u8; 20], count: usize) -> Line {
-        if count < LONG_NAME {
-            return self.decimal_digits(digits, count);
-        }
-        self.ends(
-            part(digits, 0, NAME_END - 1),
-            part(digits, count - NAME_END, count),
-        )
-    }
-
+    // A name that is a number, after its mark.
     fn number_name(self, n: u64) -> Line {
-        let marked = self.with(b'#');
-        if !self.short {
-            return marked.number(n);
-        }
         let mut digits = [0; 20];
         let count = io::decimal(n, &mut digits);
-        marked.short_digits(&digits, count)
+        let mut name = [b'#'; 21];
+        name[1..].copy_from_slice(&digits);
+        self.name_text(&name[..count + 1])
     }
 
     // A name by its text, or by its number where the file has no text for it.
     pub fn name(self, source: &[u8], names: &[u64; NAME_WORDS], n: u64) -> Line {
-        let view = self.view;
-        if n >= view.names as u64 {
+        if n >= self.view.names as u64 {
             return self.number_name(n);
         }
         let place = place_of(names, n as usize);
-        let name = part(source, place.start, place.end);
-        if self.short {
-            return self.short_text(name);
-        }
-        self.text(name)
+        self.name_text(part(source, place.start, place.end))
     }
 
     pub fn reference(self, source: &[u8], names: &[u64; NAME_WORDS], n: u64, index: u64) -> Line {
@@ -296,10 +250,11 @@ impl Line {
 
 // How many of `count` lines are shown where there is room for `most` and one more, which tells of the rest.
 pub fn shown(view: View, count: usize, most: usize) -> usize {
-    if view.all | (count <= std::num::wrapping_add_usize(most, 1)) {
-        return count;
+    if view.all || count <= most.wrapping_add(1) {
+        count
+    } else {
+        most
     }
-    most
 }
 
 // The line that tells of the rest.

@@ -43,12 +43,12 @@ fn calls(refusal: u64) {
 fn type_errors() {
     text(b"- Type error 1, ");
     type_error::cause(1);
-    text(b"; 2, ");
-    type_error::cause(2);
-    text(b"; 3, ");
-    type_error::cause(3);
-    text(b"; 4, ");
-    type_error::cause(4);
+    for kind in 2..=4 {
+        text(b"; ");
+        number(kind);
+        text(b", ");
+        type_error::cause(kind);
+    }
     text(
         b": `examples/type-error-1.tables` to `-4.tables`\n\
         - A frame's check ends at the first node that fails, and the console tells how many it looked at: `examples/frame-left.tables`\n\
@@ -100,7 +100,7 @@ fn refusal_entry(refusal: u64) {
     text(b"\n\n- Cause: ");
     cause(refusal);
     text(b".\n- Mended by: ");
-    mender(refusal);
+    text(mender(refusal));
     text(b".\n- Given by: ");
     calls(refusal);
     text(b".\n- Example: `examples/refusal-");
@@ -110,10 +110,8 @@ fn refusal_entry(refusal: u64) {
 }
 
 fn refusal_entries() {
-    let mut refusal = TABLE_SHAPE;
-    while refusal <= UNFIT_LITERAL {
+    for refusal in TABLE_SHAPE..=UNFIT_LITERAL {
         refusal_entry(refusal);
-        refusal += 1;
     }
 }
 

@@ -8,8 +8,7 @@ pub fn text(bytes: &[u8]) {
 }
 
 pub fn byte(b: u8) {
-    let one = [b; 1];
-    text(&one);
+    text(&[b]);
 }
 
 // One line of a text, by its place from 0; nothing past the end.

@@ -1,9 +1,11 @@
 // The program's rows, the current one marked.
+ghost use Rattle.std.specs.Prelude.{◌≤◌};
+
 use crate::line::Line;
 use crate::print::{byte, style, text};
-use crate::quil::row_text;
+use crate::quil::Program;
 use crate::view::View;
-use script::line::least;
+use std::ops::Range;
 use stepper_words::names::NAME_WORDS;
 use tables::rows::{INSTRUCTION_WIDTH, instruction_at};
 
@@ -19,40 +21,35 @@ fn row_number(line: Line, row: usize) -> Line {
     hundreds.number(row as u64).text(b"  ")
 }
 
-fn numbered_row(
-    line: Line,
-    source: &[u8],
-    names: &[u64; NAME_WORDS],
-    nodes: &[u64],
-    arguments: &[u64],
-    instructions: &[u64],
-    row: usize,
-) -> Line {
-    let numbered = row_number(line, row);
-    if row < instructions.len() / INSTRUCTION_WIDTH {
-        let x = instruction_at(instructions, row);
-        return row_text(numbered, source, names, nodes, arguments, x);
+impl Program<'_> {
+    fn numbered_row(self, line: Line, row: usize) -> Line {
+        let numbered = row_number(line, row);
+        if row < self.instructions.len() / INSTRUCTION_WIDTH {
+            return self.row_text(numbered, instruction_at(self.instructions, row));
+        }
+        numbered
     }
-    numbered
-}
 
-// A row after what stands before it, with its names shortened where it is too long.
-fn row_after(
-    line: Line,
-    source: &[u8],
-    names: &[u64; NAME_WORDS],
-    nodes: &[u64],
-    arguments: &[u64],
-    instructions: &[u64],
-    row: usize,
-) {
-    let whole = numbered_row(line, source, names, nodes, arguments, instructions, row);
-    if whole.fits() {
-        whole.print();
-        return;
+    // A row after what stands before it, with its names shortened where it is too long.
+    fn row_after(self, line: Line, row: usize) {
+        let whole = self.numbered_row(line, row);
+        if whole.fits() {
+            whole.print();
+            return;
+        }
+        self.numbered_row(line.shortened(), row).print();
     }
-    let short = line.shortened();
-    numbered_row(short, source, names, nodes, arguments, instructions, row).print();
+
+    // A row of the screen.
+    fn screen_row(self, view: View, row: usize, current: bool) {
+        if current {
+            style(view, b"1");
+        }
+        let mark = if current { b"> " } else { b"  " };
+        self.row_after(Line::new(view).text(mark), row);
+        style(view, b"0");
+        byte(b'\n');
+    }
 }
 
 pub fn row_line(
@@ -64,70 +61,38 @@ pub fn row_line(
     instructions: &[u64],
     row: usize,
 ) {
-    let line = Line::new(view);
-    row_after(line, source, names, nodes, arguments, instructions, row);
-}
-
-// A row of the screen.
-fn screen_row(
-    source: &[u8],
-    names: &[u64; NAME_WORDS],
-    view: View,
-    nodes: &[u64],
-    arguments: &[u64],
-    instructions: &[u64],
-    row: usize,
-    current: bool,
-) {
-    let line = Line::new(view);
-    let marked = if current {
-        style(view, b"1");
-        line.text(b"> ")
-    } else {
-        line.text(b"  ")
+    let program = Program {
+        source,
+        names,
+        nodes,
+        arguments,
+        instructions,
     };
-    row_after(marked, source, names, nodes, arguments, instructions, row);
-    style(view, b"0");
-    byte(b'\n');
+    program.row_after(Line::new(view), row);
 }
 
-// The rows from `start` up to `end`.
-#[derive(Drop)]
-struct Window {
-    start: usize,
-    end: usize,
-}
-
-fn window_at(view: View, rows: usize, current: usize) -> Window {
+// The rows that are shown.
+fn shown_rows(view: View, rows: usize, current: usize) -> Range<usize>
+    ensures { result.end ≤ rows }
+{
     if view.all {
-        return Window {
-            start: 0,
-            end: rows,
-        };
+        return 0..rows;
     }
     // A foreign writer's position may lie past the rows.
-    let at = least(current, rows);
-    let start = if at < ROWS_BEFORE {
-        0
-    } else {
-        at - ROWS_BEFORE
-    };
-    Window {
-        start,
-        end: least(rows, std::num::wrapping_add_usize(start, ROWS)),
-    }
+    let start = current.min(rows).saturating_sub(ROWS_BEFORE);
+    start..rows.min(start.saturating_add(ROWS))
 }
 
-// How many rows the window leaves out.
-fn rows_left_out(view: View, window: Window, rows: usize) {
-    if (window.start == 0) & (window.end == rows) {
+// How many rows are left out above and below those that are shown.
+fn rows_left_out(view: View, above: usize, below: usize) {
+    if above == 0 && below == 0 {
         return;
     }
     Line::new(view)
         .text(b"       .. ")
-        .number(window.start as u64)
+        .number(above as u64)
         .text(b" above, ")
-        .number(std::num::wrapping_sub_usize(rows, window.end) as u64)
+        .number(below as u64)
         .text(b" below: m shows all rows")
         .end();
 }
@@ -150,24 +115,20 @@ pub fn program_rows(
     instructions: &[u64],
     current: usize,
 ) {
+    let program = Program {
+        source,
+        names,
+        nodes,
+        arguments,
+        instructions,
+    };
     let rows = instructions.len() / INSTRUCTION_WIDTH;
-    let window = window_at(view, rows, current);
-    let mut row = window.start;
-    while row < window.end {
-        screen_row(
-            source,
-            names,
-            view,
-            nodes,
-            arguments,
-            instructions,
-            row,
-            row == current,
-        );
-        row += 1;
+    let Range { start, end } = shown_rows(view, rows, current);
+    for row in start..end {
+        program.screen_row(view, row, row == current);
     }
     if current == rows {
         end_row(view);
     }
-    rows_left_out(view, window, rows);
+    rows_left_out(view, start, rows - end);
 }

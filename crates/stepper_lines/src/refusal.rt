@@ -39,14 +39,14 @@ pub fn cause(refusal: u64) {
 }
 
 // Who can mend it.
-pub fn mender(refusal: u64) {
+pub fn mender(refusal: u64) -> &'static [u8] {
     match refusal {
-        TABLE_SHAPE..=BUFFER_SIZE => text(b"the loader"),
-        AT_END..=JOURNAL_FULL => text(b"the student"),
-        INDEX_PAST_LENGTH..=NEGATIVE_SHIFT_COUNT | OUTSIDE_INTEGER => text(b"the running program"),
-        UNFIT_REPLY => text(b"the extern routine"),
-        NO_RULE..=FOREIGN_POSITION => text(b"the foreign writer"),
-        _ => text(b"the program's author"),
+        TABLE_SHAPE..=BUFFER_SIZE => b"the loader",
+        AT_END..=JOURNAL_FULL => b"the student",
+        INDEX_PAST_LENGTH..=NEGATIVE_SHIFT_COUNT | OUTSIDE_INTEGER => b"the running program",
+        UNFIT_REPLY => b"the extern routine",
+        NO_RULE..=FOREIGN_POSITION => b"the foreign writer",
+        _ => b"the program's author",
     }
 }
 
@@ -57,7 +57,7 @@ pub fn refused(refusal: u64, view: View) {
     text(b": ");
     cause(refusal);
     text(b" (for ");
-    mender(refusal);
+    text(mender(refusal));
     text(b" to mend)");
     style(view, b"0");
     byte(b'\n');

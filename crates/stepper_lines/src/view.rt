@@ -11,26 +11,24 @@ pub struct View {
 
 impl View {
     pub fn with_bits(self) -> View {
-        let mut next = self;
-        next.bits = !self.bits;
-        next
+        View {
+            bits: !self.bits,
+            ..self
+        }
     }
 
     pub fn with_all(self) -> View {
-        let mut next = self;
-        next.all = !self.all;
-        next
+        View {
+            all: !self.all,
+            ..self
+        }
     }
 
     pub fn with_cells(self, cells: bool) -> View {
-        let mut next = self;
-        next.cells = cells;
-        next
+        View { cells, ..self }
     }
 
     pub fn with_names(self, names: usize) -> View {
-        let mut next = self;
-        next.names = names;
-        next
+        View { names, ..self }
     }
 }

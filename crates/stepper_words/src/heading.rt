@@ -39,14 +39,7 @@ impl Table {
     pub fn number(self) -> usize
         ensures { result < 6 }
     {
-        match self {
-            Table::Regions => 0,
-            Table::Externs => 1,
-            Table::Parameters => 2,
-            Table::Nodes => 3,
-            Table::Arguments => 4,
-            Table::Instructions => 5,
-        }
+        self as usize
     }
 
     // Words in a row.
@@ -66,19 +59,12 @@ impl Table {
 
 impl Heading {
     pub fn is_nothing(self) -> bool {
-        match self {
-            Heading::Nothing => true,
-            _ => false,
-        }
+        matches!(self, Heading::Nothing)
     }
 
     // Whether its line has words of the table whose heading came last.
     pub fn fills_table(self) -> bool {
-        match self {
-            Heading::Loose => true,
-            Heading::Nothing => true,
-            _ => false,
-        }
+        matches!(self, Heading::Loose | Heading::Nothing)
     }
 
     // Words on its line, where it is no table's: a number comes before a cell's and an entry's.
@@ -111,9 +97,7 @@ fn heading_at(place: usize) -> Heading {
 }
 
 pub fn heading_of(word: &[u8]) -> Heading {
-    let headings = HEADINGS;
-    let listed = index_of(&headings, word);
-    match listed {
+    match index_of(&HEADINGS, word) {
         Listed::At(place) => heading_at(place),
         Listed::Absent => Heading::Nothing,
     }

@@ -12,7 +12,7 @@ pub const NAME_WORDS: usize = NAME_WIDTH * MOST_NAMES;
 
 // The word at a place, 0 past the end.
 pub fn word_of(words: &[u64], i: usize) -> u64 {
-    if i < words.len() { words[i] } else { 0 }
+    words.get(i).copied().unwrap_or(0)
 }
 
 // Where name n stands in the text; nowhere, where it is none of the names that are kept.
@@ -34,14 +34,9 @@ fn is_name(text: &[u8], names: &[u64; NAME_WORDS], n: usize, word: &[u8]) -> boo
 
 // The number of a name among the first `count`; `count` where it is new.
 pub fn known(text: &[u8], names: &[u64; NAME_WORDS], count: usize, word: &[u8]) -> usize {
-    let mut n = 0;
-    while n < count {
-        if is_name(text, names, n, word) {
-            return n;
-        }
-        n += 1;
-    }
-    count
+    (0..count)
+        .find(|n| is_name(text, names, *n, word))
+        .unwrap_or(count)
 }
 
 pub fn keep(names: &mut [u64; NAME_WORDS], n: usize, word: Word)

@@ -40,8 +40,7 @@ fn extern_place(column: usize) -> Place {
     match column {
         0 => Place::Name,
         1 => Place::ReturnKind,
-        2 => Place::Whole,
-        3 => Place::Whole,
+        2 | 3 => Place::Whole,
         _ => Place::Unused,
     }
 }
@@ -67,13 +66,11 @@ fn parameter_place(shape: u64, column: usize) -> Place {
 
 // One of two words, the first at column `first`; unused past them.
 fn either(column: usize, first: usize, one: Place, other: Place) -> Place {
-    if column == first {
-        return one;
+    match column.checked_sub(first) {
+        Some(0) => one,
+        Some(1) => other,
+        _ => Place::Unused,
     }
-    if column == std::num::wrapping_add_usize(first, 1) {
-        return other;
-    }
-    Place::Unused
 }
 
 fn reference_place(column: usize, first: usize) -> Place {
@@ -111,12 +108,12 @@ fn argument_place(form: u64, column: usize) -> Place {
 // A family of one operator has that word unused.
 fn operator_place(family: u64) -> Place {
     match family {
-        family::ARITHMETIC => Place::Operator,
-        family::COMPARISON => Place::Operator,
-        family::BINARY_LOGIC => Place::Operator,
-        family::UNARY => Place::Operator,
-        family::FRAME => Place::Operator,
-        family::OTHER => Place::Operator,
+        family::ARITHMETIC
+        | family::COMPARISON
+        | family::BINARY_LOGIC
+        | family::UNARY
+        | family::FRAME
+        | family::OTHER => Place::Operator,
         _ => Place::Unused,
     }
 }
@@ -126,30 +123,20 @@ fn first_place(family: u64, column: usize) -> Place {
     match family {
         family::STORE => either(column, 2, Place::Name, Place::Unused),
         family::FRAME => either(column, 2, Place::Whole, Place::Whole),
-        family::OTHER => Place::Unused,
-        family::JUMP => Place::Unused,
-        family::LABEL => Place::Unused,
-        family::HALT => Place::Unused,
+        family::OTHER | family::JUMP | family::LABEL | family::HALT => Place::Unused,
         _ => reference_place(column, 2),
     }
-}
-
-fn label_place(column: usize) -> Place {
-    either(column, 4, Place::Label, Place::Unused)
 }
 
 // The second operand's two words: a cell, a LOAD's region, a CALL's argument count, a label, or nothing.
 fn second_place(family: u64, column: usize) -> Place {
     match family {
-        family::COMPARISON => reference_place(column, 4),
-        family::EXCHANGE => reference_place(column, 4),
+        family::COMPARISON | family::EXCHANGE | family::STORE => reference_place(column, 4),
         family::LOAD => either(column, 4, Place::Name, Place::Unused),
-        family::STORE => reference_place(column, 4),
         family::CALL => either(column, 4, Place::Whole, Place::Unused),
-        family::JUMP => label_place(column),
-        family::JUMP_WHEN => label_place(column),
-        family::JUMP_UNLESS => label_place(column),
-        family::LABEL => label_place(column),
+        family::JUMP | family::JUMP_WHEN | family::JUMP_UNLESS | family::LABEL => {
+            either(column, 4, Place::Label, Place::Unused)
+        }
         _ => Place::Unused,
     }
 }
@@ -173,10 +160,8 @@ fn instruction_place(family: u64, form: u64, column: usize) -> Place {
     }
     match column {
         1 => operator_place(family),
-        2 => first_place(family, column),
-        3 => first_place(family, column),
-        4 => second_place(family, column),
-        5 => second_place(family, column),
+        2 | 3 => first_place(family, column),
+        4 | 5 => second_place(family, column),
         6 => Place::SourceForm,
         _ => source_place(form, column),
     }

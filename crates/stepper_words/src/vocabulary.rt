@@ -1,13 +1,12 @@
 // The words that stand for numbers, by place, and the words that are no names. A word's number is its place in its list.
 use crate::heading::HEADINGS;
-use crate::list::{Listed, find, index_of};
+use crate::list::{Listed, find, index_of, line_of};
 use crate::place::{LAST_FAMILY, Place};
-use script::line::{line_at, part};
 use tables::parameter_shape;
 
 pub const KINDS: [u8; 22] = *b"BIT INTEGER OCTET REAL";
 
-const NO_RETURN: [u8; 4] = *b"none";
+const NO_RETURN: &[u8] = b"none";
 
 const SHAPES: [u8; 21] = *b"scalar fixed variable";
 
@@ -30,80 +29,48 @@ pub enum Operation {
     Absent,
 }
 
-fn operation_in(mnemonics: &[u8], word: &[u8], any_case: bool) -> Operation {
-    let mut at = 0;
-    let mut family = 0;
-    while family <= LAST_FAMILY {
-        let line = line_at(mnemonics, at);
-        let listed = find(part(mnemonics, line.start, line.end), word, any_case);
-        if let Listed::At(operator) = listed {
+// The operation of a mnemonic, in capitals or in any letters.
+pub fn operation_of(word: &[u8], any_case: bool) -> Operation {
+    for family in 0..=LAST_FAMILY {
+        if let Listed::At(operator) = find(line_of(&MNEMONICS, family), word, any_case) {
             return Operation::Of(family, operator as u64);
         }
-        at = line.next;
-        family += 1;
     }
     Operation::Absent
 }
 
-// The operation of a mnemonic, in capitals or in any letters.
-pub fn operation_of(word: &[u8], any_case: bool) -> Operation {
-    let mnemonics = MNEMONICS;
-    operation_in(&mnemonics, word, any_case)
-}
-
 fn return_kind_number(word: &[u8]) -> Listed {
-    let kinds = KINDS;
-    let none = NO_RETURN;
-    let absent = index_of(&none, word);
-    if let Listed::At(_) = absent {
+    if word == NO_RETURN {
         return Listed::At(parameter_shape::NO_RETURN as usize);
     }
-    index_of(&kinds, word)
+    index_of(&KINDS, word)
 }
 
 // The number that a word stands for at a place.
 pub fn number_of(place: Place, word: &[u8]) -> Listed {
-    let kinds = KINDS;
-    let mutabilities = MUTABILITIES;
-    let shapes = SHAPES;
-    let nodes = NODES;
-    let arguments = ARGUMENTS;
-    let sources = SOURCES;
     match place {
-        Place::Kind => index_of(&kinds, word),
+        Place::Kind => index_of(&KINDS, word),
         Place::ReturnKind => return_kind_number(word),
-        Place::Mutability => index_of(&mutabilities, word),
-        Place::Shape => index_of(&shapes, word),
-        Place::Tag => index_of(&nodes, word),
-        Place::Form => index_of(&arguments, word),
-        Place::SourceForm => index_of(&sources, word),
+        Place::Mutability => index_of(&MUTABILITIES, word),
+        Place::Shape => index_of(&SHAPES, word),
+        Place::Tag => index_of(&NODES, word),
+        Place::Form => index_of(&ARGUMENTS, word),
+        Place::SourceForm => index_of(&SOURCES, word),
         _ => Listed::Absent,
     }
 }
 
-fn is_in(list: &[u8], word: &[u8]) -> bool {
-    let listed = find(list, word, true);
-    match listed {
-        Listed::At(_) => true,
-        Listed::Absent => false,
-    }
-}
-
-// A word of a row's lists, in any letters.
-fn is_row_word(word: &[u8]) -> bool {
-    let kinds = KINDS;
-    let mutabilities = MUTABILITIES;
-    let shapes = SHAPES;
-    let nodes = NODES;
-    let arguments = ARGUMENTS;
-    let sources = SOURCES;
-    let of_parameters = is_in(&kinds, word) | (is_in(&mutabilities, word) | is_in(&shapes, word));
-    let of_rows = is_in(&nodes, word) | (is_in(&arguments, word) | is_in(&sources, word));
-    of_parameters | of_rows
-}
-
-// A heading or a word of a list, in any letters, is no name; nor is a mnemonic.
+// A heading or a word of a row's lists, in any letters, is no name; nor is a mnemonic.
 pub fn is_reserved(word: &[u8]) -> bool {
-    let headings = HEADINGS;
-    is_in(&headings, word) | is_row_word(word)
+    let lists: [&[u8]; 7] = [
+        &HEADINGS,
+        &KINDS,
+        &MUTABILITIES,
+        &SHAPES,
+        &NODES,
+        &ARGUMENTS,
+        &SOURCES,
+    ];
+    let mut lists = lists.iter();
+    lists.any(|list| matches!(find(list, word, true), Listed::At(_)))
 }

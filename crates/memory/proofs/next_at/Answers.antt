@@ -1,11 +1,7 @@
-use Prim.Native.Nat.{◌-◌}
-use mathlib.Core.Path.{◌≡◌, refl, sym, ap, ◌∙◌}
-use native.Mathlib.Omega.{arith}
-use borrow.Author.Tests.{eq-eqb, ne_eqb}
+use Rattle.std.proofs.Common.{sym, ap, ◌∙◌, ◌≡◌, refl, arith, eq-eqb, ne_eqb}
 use Rattle.tables.specs.declared.rows.Node.{Node}
 use Rattle.tables.proofs.FirstLaws.{first_hit, first_miss, first-end}
 use Rattle.memory.specs.References.{next_of}
-use borrow.Author.Rules.{rules}
 use Rattle.memory.proofs.next_at.Goals as goal
 
 tag_of : {node decoded : Node} → node ≡ decoded → decoded.tag ≡ node.tag
@@ -15,23 +11,11 @@ pub loop-i-init : goal.loop-i-init
 unfolding next_of
 loop-i-init c = refl
 
-pub node_at-node-requires : goal.node_at-node-requires
-node_at-node-requires c = omega arith
-
-pub overflow_add-result : goal.overflow_add-result
-overflow_add-result c = omega arith
-
 pub returns-then-node-eq-ADDRESS : goal.returns-then-node-eq-ADDRESS
-returns-then-node-eq-ADDRESS c = rw c.node_at-node.ensures (sym (first_hit _ _ _ _ _ (search rules) (eq-eqb _ _ (tag_of c.node_at-node.ensures ∙ c.if-node-eq-ADDRESS.true))) ∙ c.loop-i.invariant)
-
-pub overflow_add-i : goal.overflow_add-i
-overflow_add-i c = omega arith
-
-pub loop-i-smaller : goal.loop-i-smaller
-loop-i-smaller c = omega arith
+returns-then-node-eq-ADDRESS c = rw c.node_at-node.ensures (sym (first_hit _ _ _ _ _ (omega arith) (eq-eqb _ _ (tag_of c.node_at-node.ensures ∙ c.if-node-eq-ADDRESS.true))) ∙ c.loop-i.invariant)
 
 pub loop-i-preserved : goal.loop-i-preserved
-loop-i-preserved c = sym (first_miss _ _ _ _ _ (search rules) (ne_eqb _ _ (λ e. c.if-node-eq-ADDRESS.false (sym (tag_of c.node_at-node.ensures) ∙ e)))) ∙ c.loop-i.invariant
+loop-i-preserved c = sym (first_miss _ _ _ _ _ (omega arith) (ne_eqb _ _ (λ e. c.if-node-eq-ADDRESS.false (sym (tag_of c.node_at-node.ensures) ∙ e)))) ∙ c.loop-i.invariant
 
 pub returns : goal.returns
-returns c = sym (first-end _ _ _ _ _ (search rules)) ∙ c.loop-i.invariant
+returns c = sym (first-end _ _ _ _ _ (omega arith)) ∙ c.loop-i.invariant

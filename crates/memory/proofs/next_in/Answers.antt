@@ -1,26 +1,7 @@
-use Prim.Native.Nat.{ℕ, ◌*◌}
-use mathlib.Core.Path.{ap, ◌∙◌}
-use native.Mathlib.Omega.{arith}
-use lib.ListN.{take, drop}
+use Rattle.std.proofs.Common.{List, ℕ, ap, ◌∙◌}
 use Rattle.memory.specs.References.{next_of, next_in}
-use Rattle.memory.proofs.ReferenceLaws.{one_tree-inside, part_words}
 use Rattle.memory.proofs.next_in.Goals as goal
-
-pub overflow_mul-start : goal.overflow_mul-start
-overflow_mul-start c = omega (arith, one_tree-inside _ _ _ c.requires)
-
-pub overflow_add-end : goal.overflow_add-end
-overflow_add-end c = omega (arith, one_tree-inside _ _ _ c.requires)
-
-pub overflow_mul-end : goal.overflow_mul-end
-overflow_mul-end c = omega (arith, one_tree-inside _ _ _ c.requires)
-
-pub offset_bounds-nodes-start : goal.offset_bounds-nodes-start
-offset_bounds-nodes-start c = omega (arith, one_tree-inside _ _ _ c.requires)
-
-pub slice_bounds-next_from-end : goal.slice_bounds-next_from-end
-slice_bounds-next_from-end c = omega (arith, one_tree-inside _ _ _ c.requires)
 
 pub returns : goal.returns
 unfolding next_in
-returns c = c.next_from.ensures ∙ ap (λ (m : ℕ). next_of (take m (drop (c.args.first * 3) c.args.nodes.now)) c.args.place) (part_words c.args.first c.args.count)
+returns c = c.next_from.ensures ∙ ap (λ (part : List ℕ). next_of part c.args.place) c.nodes_in.ensures

@@ -1,7 +1,4 @@
-use Prim.Native.Nat.{suc, ◌+◌}
-use mathlib.Core.Path.{◌≡◌}
-use native.Mathlib.Omega.{arith}
-use lib.ListN.{length-set}
+use Rattle.std.proofs.Common.{suc, ◌+◌, ◌≡◌, arith, length-set}
 use Rattle.memory.proofs.batch.put_reference.Goals as goal
 
 pub bounds-rows-at-2 : goal.bounds-rows-at-2

@@ -1,6 +1,0 @@
-use Rattle.reals.specs.Real.{real_greater_than_or_equal}
-use Rattle.reals.proofs.real.greater_than_or_equal.Goals as goal
-
-pub returns : goal.returns
-unfolding real_greater_than_or_equal
-returns c = cc

@@ -1,6 +1,0 @@
-use Rattle.reals.specs.Real.{real_multiply}
-use Rattle.reals.proofs.real.multiply.Goals as goal
-
-pub returns : goal.returns
-unfolding real_multiply
-returns c = cc

@@ -1,8 +1,0 @@
-use Rattle.std.proofs.Common.{◌-◌}
-use Rattle.stepper_faults.proofs.word.bad_word.Given as goal
-
-abbrev pub invariant-loop-column : goal.invariant-loop-column
-invariant-loop-column l = Unit {0}
-
-abbrev pub decreases-loop-column : goal.decreases-loop-column
-decreases-loop-column l = l.width - l.column
