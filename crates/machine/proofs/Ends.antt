@@ -6,29 +6,30 @@ use mathlib.Core.Bool.{Bool, true, false, cond, false≢true}
 use mathlib.Core.List.{List, [], ◌∷◌}
 use mathlib.Core.Path.{◌≡◌, refl, sym, ◌∙◌}
 use native.Mathlib.Omega.{arith}
-use Rattle.tables.specs.Refusal.{journal_full, no_rule}
+use Rattle.tables.specs.Refusal.{refusal_number, journal_full, no_rule}
+use Rattle.tables.specs.declared.refusal.Refusal.{Refusal}
 use Rattle.tables.specs.Outcome.{Outcome, ◌>>=◌, ◌>>◌, need}
 use Rattle.tables.proofs.Cases.{among}
 
-pub data Ends (R : ℕ → Type 0) {A : Type 0} (P : A → Type 0) : Outcome A → Type 0 where
+pub data Ends (R : Refusal → Type 0) {A : Type 0} (P : A → Type 0) : Outcome A → Type 0 where
   fine : {a : A} → P a → Ends R P (Ok a)
-  turned : {n : ℕ} → R n → Ends R P (Err n)
+  turned : {n : Refusal} → R n → Ends R P (Err n)
 
 -- ---- the refusals that may be met
 
 -- 18, which no typed row meets, and 13, which is the session's
 abbrev pub unmet : List ℕ
-unmet = no_rule ∷ journal_full ∷ []
+unmet = refusal_number no_rule ∷ refusal_number journal_full ∷ []
 
-abbrev pub Ruled : ℕ → Type 0
-Ruled n = among n unmet ≡ false
+abbrev pub Ruled : Refusal → Type 0
+Ruled r = among (refusal_number r) unmet ≡ false
 
-abbrev pub Any : ℕ → Type 0
-Any n = Unit {0}
+abbrev pub Any : Refusal → Type 0
+Any r = Unit {0}
 
 -- ---- through a `do` block
 
-module _ {R : ℕ → Type 0} where
+module _ {R : Refusal → Type 0} where
   -- the first part ends so, and from what it gives so does the rest
   pub bind : {A B : Type 0} {P : A → Type 0} {Q : B → Type 0} {s : Outcome A} {f : A → Outcome B} → Ends R P s → ((a : A) → P a → Ends R Q (f a)) → Ends R Q (s >>= f)
   unfolding ◌>>=◌
@@ -36,7 +37,7 @@ module _ {R : ℕ → Type 0} where
   bind (turned r) h = turned r
 
   -- a test whose refusal may be met
-  pub tested : {B : Type 0} {Q : B → Type 0} {s : Outcome B} (n : ℕ) (t : Bool) → R n → (t ≡ true → Ends R Q s) → Ends R Q (need t n >> s)
+  pub tested : {B : Type 0} {Q : B → Type 0} {s : Outcome B} (n : Refusal) (t : Bool) → R n → (t ≡ true → Ends R Q s) → Ends R Q (need t n >> s)
   unfolding ◌>>◌ need
   tested n true r h = h refl
   tested n false r h = turned r
@@ -60,11 +61,11 @@ module _ {R : ℕ → Type 0} where
   gives b (turned r) e = let z : ◌≡◌ {A = ℕ} 0 1 = cc in absurd (omega arith)
 
   -- and of the refusal
-  pub refuses : {A : Type 0} {P : A → Type 0} {s : Outcome A} (n : ℕ) → Ends R P s → s ≡ Err n → R n
+  pub refuses : {A : Type 0} {P : A → Type 0} {s : Outcome A} (n : Refusal) → Ends R P s → s ≡ Err n → R n
   refuses n (fine p) e = let z : ◌≡◌ {A = ℕ} 0 1 = cc in absurd (omega arith)
   refuses n (turned {n = m} r) e = let q : m ≡ n = cc in rw (← q) r
 
-pub never_met : {A : Type 0} {P : A → Type 0} {s : Outcome A} (n : ℕ) → among n unmet ≡ true → Ends Ruled P s → s ≡ Err n → ⊥
+pub never_met : {A : Type 0} {P : A → Type 0} {s : Outcome A} (n : Refusal) → among (refusal_number n) unmet ≡ true → Ends Ruled P s → s ≡ Err n → ⊥
 never_met n m h e = false≢true (sym (refuses n h e) ∙ m)
 
 -- any computation, where nothing is asked

@@ -3,5 +3,4 @@ pub mod Ends
 pub mod Reaches
 pub mod WritesLaws
 pub mod Exchange
-pub mod Looked
 pub mod Condition

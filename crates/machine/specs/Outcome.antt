@@ -12,8 +12,8 @@ use Rattle.operands.specs.Address.{names_of, addresses_of}
 use Rattle.machine.specs.Families.{family_of}
 use Rattle.call_reply.specs.Call.{call_outcome}
 use Rattle.journal.specs.declared.cells.Write.{Write}
-use Rattle.machine.specs.declared.outcome.RowOutcome.{RowOutcome}
-use Rattle.machine.specs.declared.outcome.RowOutcome.TheVariants.{Refused, NoWrites, One, Two}
+use Rattle.machine.specs.declared.outcome.Writes.{Writes}
+use Rattle.machine.specs.declared.outcome.Writes.TheVariants.{Nothing, One, Two}
 
 abbrev pub is_call : Instruction → Bool
 is_call x = eqb x.family family.call
@@ -41,9 +41,12 @@ outcome_of t cells x reply = do
 unfoldable pub outcome_at : Tables → List ℕ → ℕ → List ℕ → Outcome (List Write)
 outcome_at t cells row reply = outcome_of t cells (instruction_at t.instructions row) reply
 
--- the answer `RowOutcome` of the code
-abbrev pub row_outcome : RowOutcome → Outcome (List Write)
-row_outcome (Refused n) = Err n
-row_outcome NoWrites = Ok []
-row_outcome (One w) = Ok (w ∷ [])
-row_outcome (Two v w) = Ok (v ∷ w ∷ [])
+-- the code's `Writes` as a list, and its answer
+abbrev pub listed : Writes → List Write
+listed Nothing = []
+listed (One w) = w ∷ []
+listed (Two v w) = v ∷ w ∷ []
+
+abbrev pub row_outcome : Outcome Writes → Outcome (List Write)
+row_outcome (Ok w) = Ok (listed w)
+row_outcome (Err r) = Err r

@@ -10,11 +10,10 @@ use tables::refusal::Refusal;
 use tables::rows::Instruction;
 use tables::{family, operator};
 
-// The writes stand in order.
+// What a row writes, in order.
 #[derive(Drop)]
-pub enum RowOutcome {
-    Refused(u64),
-    NoWrites,
+pub enum Writes {
+    Nothing,
     One(Write),
     Two(Write, Write),
 }
@@ -26,18 +25,19 @@ pub fn is_other(x: Instruction) -> bool
     (x.family == family::OTHER) & (x.operator == operator::ANY_OTHER)
 }
 
-pub fn plain_outcome(regions: &[u64], cells: &[u64], x: Instruction, reply: &[u64]) -> RowOutcome
+pub fn plain_outcome(
+    regions: &[u64],
+    cells: &[u64],
+    x: Instruction,
+    reply: &[u64],
+) -> Result<Writes, Refusal>
     requires { Opened regions.now cells.now x }
     ensures { row_outcome result ≡ plain_outcome regions.now cells.now x reply.now }
 {
     if reply.len() != 0 {
-        return RowOutcome::Refused(Refusal::UnfitReply);
+        return Err(Refusal::UnfitReply);
     }
-    let Ok(n) = named_regions(regions, x) else {
-        return RowOutcome::Refused(Refusal::NoRule);
-    };
-    let Ok(a) = written_addresses(regions, x, n) else {
-        return RowOutcome::Refused(Refusal::IndexPastLength);
-    };
+    let n = named_regions(regions, x)?;
+    let a = written_addresses(regions, x, n)?;
     family_outcome(regions, cells, x, n, a)
 }
