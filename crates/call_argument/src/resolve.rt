@@ -6,7 +6,7 @@ ghost use Rattle.call_argument.specs.Resolve.{scalar_of, fixed_of, variable_of, 
 use crate::argument::{UnresolvedCallArgument, decode};
 use crate::error::CallArgumentResolutionError;
 use crate::resolved::ResolvedCallArgument;
-use crate::vector::{Vector, same_vector};
+use crate::vector::Vector;
 use tables::lookup::{Found, lookup_region};
 use tables::parameter_shape::{FIXED_VECTOR, SCALAR};
 use tables::rows::{Argument, Parameter, region_at};
@@ -18,6 +18,7 @@ pub enum Resolution {
 }
 
 // A reference for a scalar parameter or for the return.
+#[tactic(auto, unfolding(crate::specs::Resolve::scalar_of))]
 fn resolve_scalar(regions: &[u64], name: u64, index: u64, kind: u64, mutable: u64) -> Resolution
     ensures { result ≡ scalar_of regions.now name index kind mutable }
 {
@@ -40,6 +41,7 @@ fn resolve_scalar(regions: &[u64], name: u64, index: u64, kind: u64, mutable: u6
 }
 
 // An identifier for a vector of a stated length.
+#[tactic(auto, unfolding(crate::specs::Resolve::fixed_of, crate::specs::Vectors::same_vector))]
 fn resolve_fixed(regions: &[u64], name: u64, expected: Vector, mutable: u64) -> Resolution
     ensures { result ≡ fixed_of regions.now name expected mutable }
 {
@@ -51,7 +53,7 @@ fn resolve_fixed(regions: &[u64], name: u64, expected: Vector, mutable: u64) -> 
         kind: declared.kind,
         length: declared.length,
     };
-    if same_vector(found, expected) {
+    if found == expected {
         return Resolution::Resolved(ResolvedCallArgument::Vector {
             name,
             vector: expected,
@@ -62,6 +64,7 @@ fn resolve_fixed(regions: &[u64], name: u64, expected: Vector, mutable: u64) -> 
 }
 
 // An identifier for a vector of any length.
+#[tactic(auto, unfolding(crate::specs::Resolve::variable_of))]
 fn resolve_variable(regions: &[u64], name: u64, kind: u64, mutable: u64) -> Resolution
     ensures { result ≡ variable_of regions.now name kind mutable }
 {
@@ -87,6 +90,7 @@ fn resolve_variable(regions: &[u64], name: u64, kind: u64, mutable: u64) -> Reso
 }
 
 // An identifier, by the parameter's shape.
+#[tactic(auto, unfolding(crate::specs::Resolve::identifier_of, tables::specs::Cases::case_of))]
 fn resolve_identifier(regions: &[u64], name: u64, p: Parameter) -> Resolution
     ensures { result ≡ identifier_of regions.now name p }
 {
@@ -105,6 +109,7 @@ fn resolve_identifier(regions: &[u64], name: u64, p: Parameter) -> Resolution
 }
 
 // An argument for a parameter.
+#[tactic(auto, unfolding(crate::specs::Resolve::resolve_argument))]
 pub fn resolve_argument(regions: &[u64], row: Argument, p: Parameter) -> Resolution
     ensures { result ≡ resolve_argument regions.now row p }
 {
@@ -136,6 +141,7 @@ pub fn resolve_argument(regions: &[u64], row: Argument, p: Parameter) -> Resolut
 }
 
 // An argument for the return, of that kind.
+#[tactic(auto, unfolding(crate::specs::Resolve::resolve_return))]
 pub fn resolve_return(regions: &[u64], row: Argument, kind: u64) -> Resolution
     ensures { result ≡ resolve_return regions.now row kind }
 {

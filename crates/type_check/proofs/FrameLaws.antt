@@ -1,4 +1,5 @@
 -- What a tree's verdict says: a failing node is one of the tree's. Assumes nothing.
+use Rattle.std.specs.Prelude.{Result, Ok, Err}
 use Prim.Native.Nat.{ℕ, ◌+◌, ◌<◌}
 use mathlib.Core.List.{List}
 use mathlib.Core.Logic.{⊎_elim}
@@ -6,14 +7,12 @@ use mathlib.Core.Path.{◌≡◌, sym, ◌∙◌}
 use native.Mathlib.Omega.{arith}
 use Rattle.type_check.specs.Frame.{at_place, verdict_there, tree_verdict}
 use Rattle.type_check.specs.declared.frame.NodeError.{NodeError}
-use Rattle.type_check.specs.declared.frame.NodeVerdict.{NodeVerdict}
-use Rattle.type_check.specs.declared.frame.NodeVerdict.TheVariants.{Real, Fails}
 use Rattle.type_check.specs.declared.frame.TreeVerdict.TheVariants.{FailsAt}
 use Rattle.type_check.proofs.Searches.{searched}
 
-same_place : (v : NodeVerdict) {place k : ℕ} {e : NodeError} → FailsAt place e ≡ at_place k v → place ≡ k
-same_place Real q = let z : ◌≡◌ {A = ℕ} 0 1 = cc in absurd (omega arith)
-same_place (Fails e) q = cc
+same_place : (v : Result (Unit {0}) NodeError) {place k : ℕ} {e : NodeError} → FailsAt place e ≡ at_place k v → place ≡ k
+same_place (Ok _) q = let z : ◌≡◌ {A = ℕ} 0 1 = cc in absurd (omega arith)
+same_place (Err e) q = cc
 
 pub place-below : (regions nodes : List ℕ) (root count : ℕ) {place : ℕ} {e : NodeError} → tree_verdict regions nodes root count ≡ FailsAt place e → place < count
 unfolding tree_verdict

@@ -1,4 +1,5 @@
 -- The count of the nodes looked at, as specs/Looked.antt claims it. Assumes nothing.
+use Rattle.std.specs.Prelude.{Result, Ok, Err}
 use Prim.Native.Nat.{ℕ, zero, suc, ◌+◌}
 use mathlib.Core.Bool.{cond}
 use mathlib.Core.List.{List}
@@ -7,15 +8,14 @@ use native.Mathlib.Omega.{arith}
 use Rattle.tables.specs.First.{first}
 use Rattle.type_check.specs.Frame.{is_failure, at_place, verdict_there, tree_from, tree_verdict}
 use Rattle.type_check.specs.Looked.{looked_from, place_plus_one_or, LookedIs, tree_check}
-use Rattle.type_check.specs.declared.frame.NodeVerdict.{NodeVerdict}
-use Rattle.type_check.specs.declared.frame.NodeVerdict.TheVariants.{Real, Fails}
+use Rattle.type_check.specs.declared.frame.NodeError.{NodeError}
 use Rattle.type_check.specs.declared.frame.TreeVerdict.{TreeVerdict}
 
 -- a turn: the node at the place fails and is the last, or the rest is as claimed
-turn : (v : NodeVerdict) (place rest n : ℕ) (later : TreeVerdict) → place + 1 + rest ≡ place_plus_one_or later (place + 1 + n)
+turn : (v : Result (Unit {0}) NodeError) (place rest n : ℕ) (later : TreeVerdict) → place + 1 + rest ≡ place_plus_one_or later (place + 1 + n)
     → place + (1 + cond (is_failure v) 0 rest) ≡ place_plus_one_or (cond (is_failure v) (at_place place v) later) (place + suc n)
-turn Real place rest n later e = let s : place + suc n ≡ place + 1 + n = omega arith in rw s (omega arith)
-turn (Fails f) place rest n later e = omega arith
+turn (Ok _) place rest n later e = let s : place + suc n ≡ place + 1 + n = omega arith in rw s (omega arith)
+turn (Err f) place rest n later e = omega arith
 
 -- from a place on: the nodes before it were passed
 from_place : (regions nodes : List ℕ) (root place n : ℕ) → place + looked_from regions nodes root place n ≡ place_plus_one_or (tree_from regions nodes root place n) (place + n)

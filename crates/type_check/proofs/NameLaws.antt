@@ -1,4 +1,5 @@
 -- A row's judgement depends on the codes of the names that the row uses, and on no other declaration. Assumes nothing.
+use Rattle.std.specs.Prelude.{Ok}
 use Prim.Native.Nat.{ℕ, ◌+◌, ◌<◌}
 use mathlib.Core.Bool.{Bool, true, false, cond, ◌||◌}
 use mathlib.Core.List.{List, [], ◌∷◌}
@@ -24,7 +25,6 @@ use Rattle.type_rules.specs.Codes.{code_of, reference_code, operand_code, source
 use Rattle.type_check.specs.Frame.{address_rule, node_verdicts, node_verdict, is_failure, at_place, tree_rule, tree_verdict, frame_rule}
 use Rattle.type_check.specs.Check.{judgement_of}
 use Rattle.type_check.specs.Names.{operand_named, address_named, node_named, row_named}
-use Rattle.type_check.specs.declared.frame.NodeVerdict.TheVariants.{Real}
 use Rattle.type_check.specs.declared.frame.TreeVerdict.TheVariants.{AllReal}
 use Rattle.type_rules.proofs.CodeLaws.{source_is}
 use Rattle.type_check.proofs.Searches.{searched, same_search}
@@ -121,10 +121,10 @@ module _ (regions regions' nodes : List ℕ) (x : Instruction) where
   pub same_node : (node : Node) → (node.tag ≡ tag.address → code_of regions node.first ≡ code_of regions' node.first) → node_verdict regions node ≡ node_verdict regions' node
   unfolding node_verdict case_of
   same_node node h =
-      by_key (λ t. node.tag ≡ t → case_of t (node_verdicts regions node) Real ≡ case_of t (node_verdicts regions' node) Real)
+      by_key (λ t. node.tag ≡ t → case_of t (node_verdicts regions node) (Ok tt) ≡ case_of t (node_verdicts regions' node) (Ok tt))
       ((tag.address, λ e. ap address_rule (h e)) ∷ (tag.number, λ e. refl) ∷ (tag.variable, λ e. refl) ∷ [])
       node.tag
-      (λ past e. past_keys past (node_verdicts regions node) Real refl ∙ sym (past_keys past (node_verdicts regions' node) Real refl))
+      (λ past e. past_keys past (node_verdicts regions node) (Ok tt) refl ∙ sym (past_keys past (node_verdicts regions' node) (Ok tt) refl))
       refl
 
   same_frame : ((name : ℕ) → node_named nodes x name ≡ true → code_of regions name ≡ code_of regions' name) → frame_rule regions nodes x ≡ frame_rule regions' nodes x

@@ -1,5 +1,5 @@
 -- 01, "Type check": "Frame: left before right; address declared and REAL (3); imaginary part above 2^-52 in size is 3, NaN passes; variable is 3."
-use Rattle.std.specs.Prelude.{ℕ, ◌+◌, Bool, true, false, cond, List, [], ◌∷◌, eqb}
+use Rattle.std.specs.Prelude.{ℕ, ◌+◌, Bool, true, false, cond, List, [], ◌∷◌, eqb, Result, Ok, Err}
 use Rattle.words.specs.Kind.{real}
 use Rattle.tables.specs.Cases.{case_of}
 use Rattle.tables.specs.NodeTag as tag
@@ -14,41 +14,39 @@ use Rattle.type_rules.specs.Rule.{undeclared}
 use Rattle.type_rules.specs.Codes.{code_of}
 use Rattle.type_check.specs.declared.frame.NodeError.{NodeError}
 use Rattle.type_check.specs.declared.frame.NodeError.TheVariants.{Undefined, NotReal}
-use Rattle.type_check.specs.declared.frame.NodeVerdict.{NodeVerdict}
-use Rattle.type_check.specs.declared.frame.NodeVerdict.TheVariants.{Real, Fails}
 use Rattle.type_check.specs.declared.frame.TreeVerdict.{TreeVerdict}
 use Rattle.type_check.specs.declared.frame.TreeVerdict.TheVariants.{AllReal, FailsAt}
 
 -- "address declared and REAL (3)"
-unfoldable pub address_rule : ℕ → NodeVerdict
-address_rule code = cond (undeclared code) (Fails Undefined) (cond (eqb code real) Real (Fails (NotReal code)))
+unfoldable pub address_rule : ℕ → Result (Unit {0}) NodeError
+address_rule code = cond (undeclared code) (Err Undefined) (cond (eqb code real) (Ok tt) (Err (NotReal code)))
 
 -- "imaginary part above 2^-52 in size is 3, NaN passes"
-unfoldable pub number_verdict : ℕ → NodeVerdict
-number_verdict bits = cond (real_above_epsilon bits) (Fails (NotReal imaginary)) Real
+unfoldable pub number_verdict : ℕ → Result (Unit {0}) NodeError
+number_verdict bits = cond (real_above_epsilon bits) (Err (NotReal imaginary)) (Ok tt)
 
 -- by tag; "variable is 3"
-abbrev pub node_verdicts : List ℕ → Node → List (ℕ × NodeVerdict)
+abbrev pub node_verdicts : List ℕ → Node → List (ℕ × Result (Unit {0}) NodeError)
 node_verdicts regions node =
     (tag.address, address_rule (code_of regions node.first))
     ∷ (tag.number, number_verdict node.second)
-    ∷ (tag.variable, Fails (NotReal variable))
+    ∷ (tag.variable, Err (NotReal variable))
     ∷ []
 
 -- a node by itself; the other tags hold nothing that is not real
-unfoldable pub node_verdict : List ℕ → Node → NodeVerdict
-node_verdict regions node = case_of node.tag (node_verdicts regions node) Real
+unfoldable pub node_verdict : List ℕ → Node → Result (Unit {0}) NodeError
+node_verdict regions node = case_of node.tag (node_verdicts regions node) (Ok tt)
 
-abbrev pub is_failure : NodeVerdict → Bool
-is_failure Real = false
-is_failure (Fails e) = true
+abbrev pub is_failure : Result (Unit {0}) NodeError → Bool
+is_failure (Ok _) = false
+is_failure (Err e) = true
 
-abbrev pub at_place : ℕ → NodeVerdict → TreeVerdict
-at_place place Real = AllReal
-at_place place (Fails e) = FailsAt place e
+abbrev pub at_place : ℕ → Result (Unit {0}) NodeError → TreeVerdict
+at_place place (Ok _) = AllReal
+at_place place (Err e) = FailsAt place e
 
 -- of the node at a place of the tree whose first row is `root`
-abbrev pub verdict_there : List ℕ → List ℕ → ℕ → ℕ → NodeVerdict
+abbrev pub verdict_there : List ℕ → List ℕ → ℕ → ℕ → Result (Unit {0}) NodeError
 verdict_there regions nodes root place = node_verdict regions (node_at nodes (root + place))
 
 -- of its n nodes from a place on

@@ -22,12 +22,6 @@ pub enum NodeError {
     NotReal(u64),
 }
 
-#[derive(Drop)]
-pub enum NodeVerdict {
-    Real,
-    Fails(NodeError),
-}
-
 // The place counts nodes of the tree from 0.
 #[derive(Drop)]
 pub enum TreeVerdict {
@@ -35,39 +29,42 @@ pub enum TreeVerdict {
     FailsAt(u64, NodeError),
 }
 
-fn check_address(regions: &[u64], name: u64) -> NodeVerdict
+#[tactic(auto, unfolding(crate::specs::Frame::address_rule, type_rules::specs::Codes::code_of, type_rules::specs::Codes::kind_code))]
+fn check_address(regions: &[u64], name: u64) -> Result<(), NodeError>
     ensures { result ≡ address_rule (code_of regions.now name) }
 {
     let Found::At(region) = lookup_region(regions, name) else {
-        return NodeVerdict::Fails(NodeError::Undefined);
+        return Err(NodeError::Undefined);
     };
     let kind = kind_at(regions, region);
     match kind {
-        REAL => NodeVerdict::Real,
-        _ => NodeVerdict::Fails(NodeError::NotReal(kind)),
+        REAL => Ok(()),
+        _ => Err(NodeError::NotReal(kind)),
     }
 }
 
-fn check_number(imaginary: u64) -> NodeVerdict
+#[tactic(auto, unfolding(crate::specs::Frame::number_verdict))]
+fn check_number(imaginary: u64) -> Result<(), NodeError>
     ensures { result ≡ number_verdict imaginary }
 {
     if above_epsilon(imaginary) {
-        NodeVerdict::Fails(NodeError::NotReal(IMAGINARY))
+        Err(NodeError::NotReal(IMAGINARY))
     } else {
-        NodeVerdict::Real
+        Ok(())
     }
 }
 
 // One node by itself; its children are rows of their own.
-fn should_be_real(regions: &[u64], node: Node) -> NodeVerdict
+#[tactic(auto, unfolding(crate::specs::Frame::node_verdict, tables::specs::Cases::case_of))]
+fn should_be_real(regions: &[u64], node: Node) -> Result<(), NodeError>
     ensures { result ≡ node_verdict regions.now node }
 {
     let tag = node.tag;
     match tag {
         node_tag::ADDRESS => check_address(regions, node.first),
         node_tag::NUMBER => check_number(node.second),
-        node_tag::VARIABLE => NodeVerdict::Fails(NodeError::NotReal(VARIABLE)),
-        _ => NodeVerdict::Real,
+        node_tag::VARIABLE => Err(NodeError::NotReal(VARIABLE)),
+        _ => Ok(()),
     }
 }
 
@@ -83,21 +80,17 @@ fn check_tree(regions: &[u64], nodes: &[u64], first: usize, count: usize) -> Tre
     requires { first + count ≤ node_rows nodes.now }
     ensures { result ≡ tree_check regions.now nodes.now first count }
 {
-    let mut looked = 0;
-    while looked < count {
-        let place = looked;
-        let verdict = should_be_real(regions, node_at(nodes, first + place));
-        looked += 1;
-        if let NodeVerdict::Fails(error) = verdict {
+    for place in 0..count {
+        if let Err(error) = should_be_real(regions, node_at(nodes, first + place)) {
             return TreeCheck {
                 verdict: TreeVerdict::FailsAt(place as u64, error),
-                looked: looked as u64,
+                looked: place as u64 + 1,
             };
         }
     }
     TreeCheck {
         verdict: TreeVerdict::AllReal,
-        looked: looked as u64,
+        looked: count as u64,
     }
 }
 
