@@ -1,5 +1,5 @@
 -- The width of a row, and how many rows an argument adds. Assumes nothing.
-use Prim.Native.Nat.{ℕ, ◌*◌, ◌≤◌}
+use Prim.Native.Nat.{◌*◌, ◌≤◌}
 use mathlib.Core.Path.{◌≡◌, refl}
 use mathlib.Core.List.{append-nil}
 use native.Mathlib.Omega.{arith}
