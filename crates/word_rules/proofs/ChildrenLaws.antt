@@ -1,10 +1,5 @@
 -- What a node's answer says of its words and its children. Assumes nothing.
-use Prim.Native.Nat.{ℕ, ◌≤◌}
-use mathlib.Core.Bool.{Bool, true, false, cond}
-use mathlib.Core.List.{[], ◌∷◌}
-use mathlib.Core.Path.{◌≡◌, refl, sym, ◌∙◌}
-use native.Mathlib.Omega.{arith}
-use lib.Dec.{leb}
+use Rattle.std.proofs.Common.{ℕ, ◌≤◌, Bool, true, false, cond, [], ◌∷◌, ◌≡◌, refl, sym, ◌∙◌, arith, leb}
 use Rattle.tables.specs.Cases.{case_of}
 use Rattle.tables.specs.NodeTag as tag
 use Rattle.tables.specs.Tree.{children_by_tag, arity_of}

@@ -1,6 +1,5 @@
-use mathlib.Core.Path.{sym, ◌∙◌}
-use native.Mathlib.Omega.{arith}
-use borrow.Author.Tests.{le-leb, lt-leb}
+use Rattle.std.proofs.Common.{sym, ◌∙◌, arith, le-leb}
+use borrow.Author.Tests.{lt-leb}
 use Rattle.tables.specs.NodeTag as tag
 use Rattle.word_rules.proofs.ChildrenLaws.{children_infix, children_known, children_unknown, children_leaf}
 use Rattle.word_rules.proofs.children.children_of.Goals as goal
