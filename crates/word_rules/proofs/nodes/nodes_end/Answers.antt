@@ -1,4 +1,4 @@
-use Rattle.std.proofs.Common.{◌≡◌, refl, sym, ap, subst, ◌∙◌, ◌-◌, arith, ℕ}
+use Rattle.std.proofs.Common.{◌≡◌, sym, ap, subst, ◌∙◌, ◌-◌, arith, ℕ}
 use Rattle.tables.specs.Rows.{node_at}
 use Rattle.tables.specs.Ends.{EndsFrom}
 use Rattle.tables.proofs.FirstLaws.{never}

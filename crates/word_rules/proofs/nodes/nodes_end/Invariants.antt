@@ -1,4 +1,3 @@
-use Rattle.std.proofs.Common.{◌≡◌, length}
 use Rattle.tables.specs.Ends.{TreeEnd, EndsFrom}
 use Rattle.word_rules.proofs.NodesLaws.{AllowedFrom}
 use Rattle.word_rules.proofs.nodes.nodes_end.Given as goal
