@@ -16,6 +16,7 @@ pub enum UnresolvedCallArgument {
 }
 
 // The row's words still travel beside the decoded argument: a NaN's payload is in them alone.
+#[tactic(auto, unfolding(crate::specs::Argument::argument_of, tables::specs::Cases::case_of))]
 pub fn decode(row: Argument) -> UnresolvedCallArgument
     ensures { result ≡ argument_of row }
 {

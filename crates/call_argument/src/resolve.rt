@@ -6,12 +6,13 @@ ghost use Rattle.call_argument.specs.Resolve.{scalar_of, fixed_of, variable_of, 
 use crate::argument::{UnresolvedCallArgument, decode};
 use crate::error::CallArgumentResolutionError;
 use crate::resolved::ResolvedCallArgument;
-use crate::vector::{Vector, same_vector};
+use crate::vector::Vector;
 use tables::lookup::lookup_region;
 use tables::parameter_shape::{FIXED_VECTOR, SCALAR};
 use tables::rows::{Argument, Parameter, region_at};
 
 // A reference for a scalar parameter or for the return.
+#[tactic(auto, unfolding(crate::specs::Resolve::scalar_of))]
 fn resolve_scalar(
     regions: &[u64],
     name: u64,
@@ -40,6 +41,7 @@ fn resolve_scalar(
 }
 
 // An identifier for a vector of a stated length.
+#[tactic(auto, unfolding(crate::specs::Resolve::fixed_of, crate::specs::Vectors::same_vector))]
 fn resolve_fixed(
     regions: &[u64],
     name: u64,
@@ -56,7 +58,7 @@ fn resolve_fixed(
         kind: declared.kind,
         length: declared.length,
     };
-    if same_vector(found, expected) {
+    if found == expected {
         return Ok(ResolvedCallArgument::Vector {
             name,
             vector: expected,
@@ -67,6 +69,7 @@ fn resolve_fixed(
 }
 
 // An identifier for a vector of any length.
+#[tactic(auto, unfolding(crate::specs::Resolve::variable_of))]
 fn resolve_variable(
     regions: &[u64],
     name: u64,
@@ -97,6 +100,7 @@ fn resolve_variable(
 }
 
 // An identifier, by the parameter's shape.
+#[tactic(auto, unfolding(crate::specs::Resolve::identifier_of, tables::specs::Cases::case_of))]
 fn resolve_identifier(
     regions: &[u64],
     name: u64,
@@ -119,6 +123,7 @@ fn resolve_identifier(
 }
 
 // An argument for a parameter.
+#[tactic(auto, unfolding(crate::specs::Resolve::resolve_argument))]
 pub fn resolve_argument(
     regions: &[u64],
     row: Argument,
@@ -152,6 +157,7 @@ pub fn resolve_argument(
 }
 
 // An argument for the return, of that kind.
+#[tactic(auto, unfolding(crate::specs::Resolve::resolve_return))]
 pub fn resolve_return(
     regions: &[u64],
     row: Argument,

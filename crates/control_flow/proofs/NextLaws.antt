@@ -1,12 +1,11 @@
--- Where a row leads: the word of its condition as it is read, the next row by the family, and that it is a row or the end. Assumes nothing.
+-- Where a row leads: the word of its condition as it is read, and that the next row is a row or the end. Assumes nothing.
 use Rattle.std.proofs.Common.{Some, None, Ok, Err}
 use Prim.Native.Nat.{ℕ, ◌+◌, ◌<◌, ◌≤◌}
 use mathlib.Core.Bool.{Bool, true, false, cond, ◌||◌}
 use mathlib.Core.List.{List, [], ◌∷◌}
-use mathlib.Core.Path.{◌≡◌, refl, sym, ap, ap₂, ◌∙◌}
+use mathlib.Core.Path.{◌≡◌, refl, sym}
 use native.Mathlib.Omega.{arith}
 use lib.Dec.{eqb}
-use lib.ListN.{get_or}
 use Rattle.tables.specs.declared.refusal.Refusal.{Refusal}
 use Rattle.tables.specs.Cases.{case_of}
 use Rattle.tables.specs.Family as family
@@ -14,10 +13,9 @@ use Rattle.tables.specs.Lookup.{lookup_region}
 use Rattle.tables.specs.Outcome.{◌>>=◌}
 use Rattle.tables.specs.Rows.{instruction_rows, instruction_at}
 use Rattle.tables.specs.declared.rows.Instruction.{Instruction}
-use Rattle.tables.proofs.Cases.{Missed, other_arm, at_key, by_key, past_keys}
+use Rattle.tables.proofs.Cases.{by_key, past_keys}
 use Rattle.tables.proofs.FirstLaws.{never}
 use Rattle.labels.specs.Labels.{is_jump, label_at, label_row}
-use Rattle.labels.specs.Targets.{Targets}
 use Rattle.labels.proofs.LabelsLaws.{label_row-within}
 use Rattle.operands.specs.Address.{indexed_of}
 use Rattle.operands.specs.Cells.{cell_word}
@@ -37,44 +35,6 @@ module _ (regions cells : List ℕ) (x : Instruction) where
   pub word-there : {r c : ℕ} → lookup_region regions x.first_name ≡ Some r → indexed_of regions r x.first_index ≡ Ok c → cell_word cells c ≡ condition_word regions cells x
   unfolding condition_cell ◌>>=◌
   word-there e h = rw (e, h)
-
--- ---- by the family; x is the row
-
-module _ (regions instructions cells : List ℕ) (row : ℕ) {x : Instruction} (is : x ≡ instruction_at instructions row) where
-  by_family_lem : {f : ℕ} → x.family ≡ f → case_of f (leads regions instructions cells row) (row + 1) ≡ next_row regions instructions cells row
-  unfolding next_row
-  by_family_lem q = at_key (leads regions instructions cells row) (row + 1) (ap (λ (y : Instruction). y.family) (sym is) ∙ q)
-
-  module _ {targets : List ℕ} (kept : Targets instructions targets (instruction_rows instructions)) (there : row < instruction_rows instructions) where
-    -- a jump's target, as it is kept
-    target : is_jump x ≡ true → get_or targets row 0 ≡ label_row instructions (label_at instructions row)
-    target e = kept.each row there (ap (λ (y : Instruction). is_jump y) (sym is) ∙ e)
-
-    on_word : (on : ℕ) {w n : ℕ} → is_jump x ≡ true → w ≡ condition_word regions cells x → n ≡ cond (eqb w on) (get_or targets row 0) (row + 1)
-        → n ≡ jump_on on (condition_word regions cells (instruction_at instructions row)) (label_row instructions (label_at instructions row)) row
-    on_word on j ew e = e ∙ ap₂ (λ (v r : ℕ). jump_on on v r row) (ew ∙ ap (condition_word regions cells) is) (target j)
-
-    pub jump-leads : x.family ≡ family.jump → get_or targets row 0 ≡ next_row regions instructions cells row
-    unfolding case_of
-    jump-leads q = target (rw q) ∙ by_family_lem q
-
-    pub when_leads : {w n : ℕ} → x.family ≡ family.jump_when → w ≡ condition_word regions cells x
-        → n ≡ cond (eqb w 1) (get_or targets row 0) (row + 1) → n ≡ next_row regions instructions cells row
-    unfolding case_of
-    when_leads q ew e = on_word 1 (rw q) ew e ∙ by_family_lem q
-
-    pub unless_leads : {w n : ℕ} → x.family ≡ family.jump_unless → w ≡ condition_word regions cells x
-        → n ≡ cond (eqb w 0) (get_or targets row 0) (row + 1) → n ≡ next_row regions instructions cells row
-    unfolding case_of
-    unless_leads q ew e = on_word 0 (rw q) ew e ∙ by_family_lem q
-
-  pub halt-leads : x.family ≡ family.halt → instruction_rows instructions ≡ next_row regions instructions cells row
-  unfolding case_of
-  halt-leads q = by_family_lem q
-
-  -- the rest arm of the match on these families
-  pub other-leads : Missed (Unit {0}) (leads regions instructions cells row) x.family → row + 1 ≡ next_row regions instructions cells row
-  other-leads m = other_arm (leads regions instructions cells row) (row + 1) x.family m ∙ by_family_lem refl
 
 -- ---- where it can lead
 

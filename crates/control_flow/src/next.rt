@@ -46,6 +46,7 @@ fn jump_row(taken: bool, target: usize, row: usize) -> usize
 }
 
 // The jumps' targets were found before.
+#[tactic(auto, unfolding(crate::specs::Next::next_row, tables::specs::Cases::case_of))]
 pub fn next_row(
     regions: &[u64],
     instructions: &[u64],

@@ -4,10 +4,9 @@ use Prim.Native.Nat.{ℕ, suc, ◌+◌, ◌-◌, ◌*◌, ◌<◌, ◌≤◌}
 use mathlib.Core.Path.{◌≡◌, refl, sym, ◌∙◌}
 use mathlib.Core.List.{List, [], ◌∷◌, ◌++◌, append-nil, append_assoc}
 use native.Mathlib.Nat.{add-mul}
-use native.Mathlib.Numerals.{add-one}
 use native.Mathlib.Omega.{arith}
-use lib.ListN.{length, get_or, set, drop, length-append, drop_of_length-le}
-use lib.Seq.{sets, drop-cons}
+use lib.ListN.{length, set, length-append}
+use lib.Seq.{sets}
 use Rattle.tables.proofs.FirstLaws.{left_suc}
 use Rattle.extern_call.specs.Gather.{gather, flat}
 use Rattle.extern_call.specs.Inner.{Stored}
@@ -34,14 +33,6 @@ flat_append row (x ∷ a) b = rw (flat_append row a b) (sym (append_assoc (row x
 pub sets-append : (a b l : List ℕ) (i : ℕ) → sets l i (a ++ b) ≡ sets (sets l i a) (i + length a) b
 sets-append [] b l i = let e : i + 0 ≡ i = omega arith in rw e
 sets-append (x ∷ a) b l i = sets-append a b (set l i x) (suc i) ∙ (let e : suc i + length a ≡ i + suc (length a) = omega arith in rw e)
-
--- words stored one by one: what is left from here gives what all give from the start
-module _ (l words : List ℕ) (at i : ℕ) where
-  pub store-turn : i < length words → sets (set l (at + i) (get_or words i 0)) (at + (i + 1)) (drop (i + 1) words) ≡ sets l (at + i) (drop i words)
-  store-turn h = let e : at + (i + 1) ≡ suc (at + i) = omega arith in rw (e, add-one i, drop-cons words i 0 h)
-
-  pub store-end : length words ≤ i → sets l (at + i) (drop i words) ≡ l
-  store-end h = rw (drop_of_length-le words h)
 
 module _ {A : Type 0} (row : A → List ℕ) (width count : ℕ) (l : List ℕ) where
   pub none_stored : Stored row width count [] l l count

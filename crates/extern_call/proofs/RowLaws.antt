@@ -1,6 +1,6 @@
 -- The width of a row, and how many rows an argument adds. Assumes nothing.
 use Rattle.std.proofs.Common.{Result, Ok, Err}
-use Prim.Native.Nat.{ℕ, ◌*◌, ◌≤◌}
+use Prim.Native.Nat.{◌*◌, ◌≤◌}
 use mathlib.Core.Path.{◌≡◌, refl}
 use mathlib.Core.List.{append-nil}
 use native.Mathlib.Omega.{arith}

@@ -44,6 +44,7 @@ pub fn find_call(externs: &[u64], x: Instruction) -> Result<ExternCall, Refusal>
 }
 
 // How many arguments the signature takes.
+#[tactic(auto, unfolding(crate::specs::Call::expected_count))]
 pub fn expected_count(call: ExternCall) -> usize
     requires { call.parameter_count + 1 < 2 ^ 64 }
     ensures { result ≡ expected_count call }
@@ -55,6 +56,7 @@ pub fn expected_count(call: ExternCall) -> usize
 }
 
 // Whose argument i is; a parameter's place does not count the return.
+#[tactic(auto, unfolding(crate::specs::Call::place_of))]
 pub fn place_of(call: ExternCall, i: usize) -> Place
     ensures { result ≡ place_of call i }
 {
@@ -111,16 +113,7 @@ pub fn all_resolve(regions: &[u64], parameters: &[u64], arguments: &[u64], call:
     requires { Counted parameters.now arguments.now call }
     ensures { result ≡ all_resolve regions.now parameters.now arguments.now call }
 {
-    let n = call.argument_count;
-    let mut i = 0;
-    while i < n {
-        let resolution = resolve_at(regions, parameters, arguments, call, i);
-        if let Err(_) = resolution {
-            return false;
-        }
-        i += 1;
-    }
-    true
+    (0..call.argument_count).all(|i| resolve_at(regions, parameters, arguments, call, i).is_ok())
 }
 
 // The CALL with its signature where all its arguments resolve; else 6, 7 or 8, the number only.

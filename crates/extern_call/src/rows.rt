@@ -36,17 +36,13 @@ impl From<Refusal> for ResolveError {
     }
 }
 
-// Stores the words from `at` on.
-fn store(rows: &mut [u64], at: usize, words: &[u64])
-    requires { at + length words.now ≤ length rows.old }
-    ensures { rows.new ≡ sets rows.old at words.now }
+// Stores a row after `count` of them. Its width is a constant, so that it is copied without a call: the library has no `memmove`.
+fn store<const WIDTH: usize>(rows: &mut [u64], count: usize, row: &[u64; WIDTH])
+    requires { count * WIDTH + WIDTH ≤ length rows.old }
+    ensures { rows.new ≡ sets rows.old (count * WIDTH) row.now }
 {
-    let n = words.len();
-    let mut i = 0;
-    while i < n {
-        rows[at + i] = words[i];
-        i += 1;
-    }
+    let at = count * WIDTH;
+    rows[at..at + WIDTH].copy_from_slice(row);
 }
 
 // An error's row, after `count` of them; how many there are then.
@@ -61,8 +57,7 @@ fn put_error(
     let Err(e) = r else {
         return count;
     };
-    let words = error_row(e);
-    store(rows, count * ERROR_WIDTH, &words);
+    store(rows, count, &error_row(e));
     count + 1
 }
 
@@ -78,8 +73,7 @@ fn put_resolved(
     let Ok(a) = r else {
         return count;
     };
-    let words = resolved_row(a);
-    store(rows, count * RESOLVED_WIDTH, &words);
+    store(rows, count, &resolved_row(a));
     count + 1
 }
 
@@ -94,13 +88,10 @@ fn write_errors(
     requires { Counted parameters.now arguments.now call × (error_width * call.argument_count ≤ length rows.old) }
     ensures { Stored error_row error_width 0 (errors_of regions.now parameters.now arguments.now call) rows.old rows.new result }
 {
-    let n = call.argument_count;
     let mut count = 0;
-    let mut i = 0;
-    while i < n {
+    for i in 0..call.argument_count {
         let r = resolve_at(regions, parameters, arguments, call, i);
         count = put_error(rows, count, r);
-        i += 1;
     }
     count
 }
@@ -116,13 +107,10 @@ fn write_resolved(
     requires { Counted parameters.now arguments.now call × (error_width * call.argument_count ≤ length rows.old) }
     ensures { Stored resolved_row resolved_width 0 (resolved_arguments regions.now parameters.now arguments.now call) rows.old rows.new result }
 {
-    let n = call.argument_count;
     let mut count = 0;
-    let mut i = 0;
-    while i < n {
+    for i in 0..call.argument_count {
         let r = resolve_at(regions, parameters, arguments, call, i);
         count = put_resolved(rows, count, r);
-        i += 1;
     }
     count
 }

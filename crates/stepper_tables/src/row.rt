@@ -1,5 +1,5 @@
 // The words of one line.
-ghost use Rattle.std.specs.Prelude.{◌≡◌, ◌<◌, ◌≤◌};
+ghost use Rattle.std.specs.Prelude.{◌≤◌};
 
 use crate::word::{Fault, Value, read_word};
 use script::line::{Word, byte_at, part, word_at};
@@ -23,6 +23,12 @@ pub enum Trouble {
     LooseWords,
 }
 
+impl From<Fault> for Trouble {
+    fn from(fault: Fault) -> Trouble {
+        Trouble::Word(fault)
+    }
+}
+
 #[derive(Clone, Copy)]
 pub enum Outcome {
     Taken,
@@ -31,10 +37,7 @@ pub enum Outcome {
 
 impl Outcome {
     pub fn is_taken(self) -> bool {
-        match self {
-            Outcome::Taken => true,
-            Outcome::Not(_) => false,
-        }
+        matches!(self, Outcome::Taken)
     }
 }
 
@@ -49,104 +52,10 @@ pub struct Row {
     pub outcome: Outcome,
 }
 
-fn empty(names: usize, numbered: bool) -> Row
-    ensures { result.count ≡ 0 }
-{
-    Row {
-        words: [0; ROW_WORDS],
-        count: 0,
-        names,
-        numbered,
-        word: Word { start: 0, end: 0 },
-        outcome: Outcome::Taken,
-    }
-}
-
-impl Row {
-    fn with(self, word: u64) -> Row
-        requires { self.count ≤ 16 }
-        ensures { result.count ≤ 16 }
-    {
-        let mut words = self.words;
-        let count = self.count;
-        if count >= ROW_WORDS {
-            return self.troubled(Trouble::Count);
-        }
-        words[count] = word;
-        let mut next = self;
-        next.words = words;
-        next.count = count + 1;
-        next
-    }
-
-    fn troubled(self, trouble: Trouble) -> Row
-        ensures { result.count ≡ self.count }
-    {
-        let words = self.words;
-        let word = self.word;
-        Row {
-            words,
-            count: self.count,
-            names: self.names,
-            numbered: self.numbered,
-            word,
-            outcome: Outcome::Not(trouble),
-        }
-    }
-
-    fn at(self, word: Word) -> Row
-        ensures { result.count ≡ self.count }
-    {
-        let mut next = self;
-        next.word = word;
-        next
-    }
-
-    fn knowing(self, names: usize) -> Row
-        ensures { result.count ≡ self.count }
-    {
-        let mut next = self;
-        next.names = names;
-        next
-    }
-
-    // A name as a number: in a file whose names are texts it would mean whichever text came at that place.
-    fn with_number(self, name: u64) -> Row
-        requires { self.count ≤ 16 }
-        ensures { result.count ≤ 16 }
-    {
-        if self.names > 0 {
-            return self.troubled(Trouble::NamesAreTexts);
-        }
-        let mut next = self;
-        next.numbered = true;
-        next.with(name)
-    }
-}
-
-// A name gets the number that it has, or the next one.
-fn name(text: &[u8], names: &mut [u64; NAME_WORDS], word: Word, row: Row) -> Row
-    requires { row.count ≤ 16 }
-    ensures { result.count ≤ 16 }
-{
-    if row.numbered {
-        return row.troubled(Trouble::NamesAreNumbers);
-    }
-    let n = known(text, names, row.names, part(text, word.start, word.end));
-    if n < row.names {
-        return row.with(n as u64);
-    }
-    if n >= MOST_NAMES {
-        return row.troubled(Trouble::TooManyNames);
-    }
-    keep(names, n, word);
-    row.knowing(n + 1).with(n as u64)
-}
-
 // A label's name, without its `@`.
 fn unmarked(word: Word) -> Word {
     Word {
-        start: std::num::wrapping_add_usize(word.start, 1),
+        start: word.start.wrapping_add(1),
         end: word.end,
     }
 }
@@ -155,11 +64,7 @@ fn unmarked(word: Word) -> Word {
 fn cell_place(kind: u64, column: usize) -> Place {
     match column {
         1 => Place::Kind,
-        2 => if kind == REAL {
-            Place::Real
-        } else {
-            Place::Whole
-        },
+        2 if kind == REAL => Place::Real,
         _ => Place::Whole,
     }
 }
@@ -177,24 +82,80 @@ pub fn has_comment(text: &[u8], word: Word) -> bool {
     byte_at(text, word.end) == b'#'
 }
 
-fn add(text: &[u8], names: &mut [u64; NAME_WORDS], heading: Heading, word: Word, row: Row) -> Row
-    requires { row.count ≤ 16 }
-    ensures { result.count ≤ 16 }
-{
-    let read = row.at(word);
-    if has_comment(text, word) {
-        return read.troubled(Trouble::Word(Fault::Comment));
+impl Row {
+    fn push(&mut self, word: u64) -> Result<(), Trouble>
+        requires { self.old.count ≤ 16 }
+        ensures { self.new.count ≤ 16 }
+    {
+        if self.count >= ROW_WORDS {
+            return Err(Trouble::Count);
+        }
+        self.words[self.count] = word;
+        self.count += 1;
+        Ok(())
     }
-    let words = row.words;
-    let place = place_under(heading, words, row.count);
-    let value = read_word(part(text, word.start, word.end), place);
-    match value {
-        Value::One(first) => read.with(first),
-        Value::Two(first, second) => read.with(first).with(second),
-        Value::Name => name(text, names, word, read),
-        Value::Label => name(text, names, unmarked(word), read),
-        Value::Numbered(n) => read.with_number(n),
-        Value::Not(fault) => read.troubled(Trouble::Word(fault)),
+
+    // A name as a number: in a file whose names are texts it would mean whichever text came at that place.
+    fn push_number(&mut self, name: u64) -> Result<(), Trouble>
+        requires { self.old.count ≤ 16 }
+        ensures { self.new.count ≤ 16 }
+    {
+        if self.names > 0 {
+            return Err(Trouble::NamesAreTexts);
+        }
+        self.numbered = true;
+        self.push(name)
+    }
+
+    // A name gets the number that it has, or the next one.
+    fn push_name(
+        &mut self,
+        text: &[u8],
+        names: &mut [u64; NAME_WORDS],
+        word: Word,
+    ) -> Result<(), Trouble>
+        requires { self.old.count ≤ 16 }
+        ensures { self.new.count ≤ 16 }
+    {
+        if self.numbered {
+            return Err(Trouble::NamesAreNumbers);
+        }
+        let n = known(text, names, self.names, part(text, word.start, word.end));
+        if n >= self.names {
+            if n >= MOST_NAMES {
+                return Err(Trouble::TooManyNames);
+            }
+            keep(names, n, word);
+            self.names = n + 1;
+        }
+        self.push(n as u64)
+    }
+
+    fn add(
+        &mut self,
+        text: &[u8],
+        names: &mut [u64; NAME_WORDS],
+        heading: Heading,
+        word: Word,
+    ) -> Result<(), Trouble>
+        requires { self.old.count ≤ 16 }
+        ensures { self.new.count ≤ 16 }
+    {
+        self.word = word;
+        if has_comment(text, word) {
+            return Err(Trouble::Word(Fault::Comment));
+        }
+        let place = place_under(heading, self.words, self.count);
+        match read_word(part(text, word.start, word.end), place)? {
+            Value::One(first) => self.push(first),
+            Value::Two(first, second) => {
+                self.push(first)?;
+                self.push(second)
+            }
+            Value::Name => self.push_name(text, names, word),
+            Value::Label => self.push_name(text, names, unmarked(word)),
+            Value::Numbered(n) => self.push_number(n),
+        }
     }
 }
 
@@ -210,18 +171,25 @@ pub fn read_row(
 ) -> Row
     ensures { result.count ≤ 16 }
 {
-    let mut row = empty(known_names, numbered);
+    let mut row = Row {
+        words: [0; ROW_WORDS],
+        count: 0,
+        names: known_names,
+        numbered,
+        word: Word { start: 0, end: 0 },
+        outcome: Outcome::Taken,
+    };
     let mut place = at;
-    let mut turns = ROW_WORDS + 1;
-    while turns > 0 {
+    'words: for _ in 0..=ROW_WORDS {
         let word = word_at(text, place, end);
-        let outcome = row.outcome;
-        if (word.start >= word.end) | !outcome.is_taken() {
+        if word.start >= word.end {
             break;
         }
-        row = add(text, names, heading, word, row);
+        if let Err(trouble) = row.add(text, names, heading, word) {
+            row.outcome = Outcome::Not(trouble);
+            break;
+        }
         place = word.end;
-        turns -= 1;
     }
     row
 }

@@ -1,6 +1,5 @@
 // One word of a file, read by its place.
 use real_text::decimal::read_decimal;
-use script::line::{byte_at, part, same};
 use script::number::read_number;
 use stepper_words::list::Listed;
 use stepper_words::place::Place;
@@ -27,6 +26,15 @@ pub enum Written {
     Not(Fault),
 }
 
+impl From<Result<u64, Fault>> for Written {
+    fn from(read: Result<u64, Fault>) -> Written {
+        match read {
+            Ok(word) => Written::Word(word),
+            Err(fault) => Written::Not(fault),
+        }
+    }
+}
+
 // What a word gives: one number, two of them, a name as a text, which is the whole word or a label's, after its `@`, a name as a number.
 #[derive(Drop)]
 pub enum Value {
@@ -35,65 +43,46 @@ pub enum Value {
     Name,
     Label,
     Numbered(u64),
-    Not(Fault),
-}
-
-fn is_digit(byte: u8) -> bool {
-    (b'0' <= byte) & (byte <= b'9')
 }
 
 fn is_letter(byte: u8) -> bool {
-    let small = (b'a' <= byte) & (byte <= b'z');
-    let capital = (b'A' <= byte) & (byte <= b'Z');
-    (byte == b'_') | (small | capital)
+    byte == b'_' || byte.is_ascii_alphabetic()
 }
 
 fn starts_number(word: &[u8]) -> bool {
-    let byte = byte_at(word, 0);
-    is_digit(byte) | ((byte == b'-') | (byte == b'.'))
-}
-
-fn has(word: &[u8], byte: u8) -> bool {
-    let mut i = 0;
-    while i < word.len() {
-        if byte_at(word, i) == byte {
-            return true;
-        }
-        i += 1;
-    }
-    false
+    matches!(word, [b'0'..=b'9' | b'-' | b'.', ..])
 }
 
 // Letters, digits, `_` and `-`, a letter first.
 fn is_name(word: &[u8]) -> bool {
-    let mut i = 0;
-    while i < word.len() {
-        let byte = byte_at(word, i);
-        if !(is_letter(byte) | (is_digit(byte) | (byte == b'-'))) {
-            return false;
-        }
-        i += 1;
+    let mut bytes = word.iter();
+    word.first().is_some_and(|first| is_letter(*first))
+        && bytes.all(|byte| is_letter(*byte) || byte.is_ascii_digit() || *byte == b'-')
+}
+
+fn read_real(word: &[u8]) -> Result<u64, Fault> {
+    match read_decimal(word) {
+        real_text::decimal::Reading::Word(bits) => Ok(bits),
+        real_text::decimal::Reading::TooLong => Err(Fault::TooManyDigits),
+        real_text::decimal::Reading::NoDecimal => Err(Fault::NoWord),
     }
-    is_letter(byte_at(word, 0))
+}
+
+fn read_whole(word: &[u8]) -> Result<u64, Fault> {
+    match read_number(word) {
+        script::number::Reading::Number(n) => Ok(n),
+        script::number::Reading::Past => Err(Fault::TooLarge),
+        script::number::Reading::NoNumber => Err(Fault::NoWord),
+    }
 }
 
 // A short decimal as its REAL word.
 pub fn decimal(word: &[u8]) -> Written {
-    let reading = read_decimal(word);
-    match reading {
-        real_text::decimal::Reading::Word(bits) => Written::Word(bits),
-        real_text::decimal::Reading::TooLong => Written::Not(Fault::TooManyDigits),
-        real_text::decimal::Reading::NoDecimal => Written::Not(Fault::NoWord),
-    }
+    read_real(word).into()
 }
 
 pub fn integer(word: &[u8]) -> Written {
-    let reading = read_number(word);
-    match reading {
-        script::number::Reading::Number(n) => Written::Word(n),
-        script::number::Reading::Past => Written::Not(Fault::TooLarge),
-        script::number::Reading::NoNumber => Written::Not(Fault::NoWord),
-    }
+    read_whole(word).into()
 }
 
 // A word that is no number at all says what is needed instead.
@@ -104,143 +93,110 @@ fn instead(fault: Fault, place: Place) -> Fault {
     }
 }
 
-fn whole(word: &[u8], place: Place) -> Value {
-    let written = integer(word);
-    match written {
-        Written::Word(n) => Value::One(n),
-        Written::Not(fault) => Value::Not(instead(fault, place)),
-    }
+fn whole(word: &[u8], place: Place) -> Result<u64, Fault> {
+    read_whole(word).map_err(|fault| instead(fault, place))
 }
 
 // A word that is no number and none of its place's.
-fn stranger(word: &[u8], place: Place) -> Value {
-    let operation = operation_of(word, true);
-    match operation {
-        Operation::Of(_, _) => Value::Not(Fault::Operation(place)),
-        Operation::Absent => Value::Not(Fault::Expected(place)),
+fn stranger(word: &[u8], place: Place) -> Fault {
+    match operation_of(word, true) {
+        Operation::Of(_, _) => Fault::Operation(place),
+        Operation::Absent => Fault::Expected(place),
     }
 }
 
-fn name_number(word: &[u8], place: Place) -> Value {
-    let value = whole(word, place);
-    match value {
-        Value::One(n) => Value::Numbered(n),
-        _ => value,
-    }
-}
-
-fn name_text(word: &[u8], place: Place) -> Value {
+fn name_text(word: &[u8], place: Place) -> Result<Value, Fault> {
     if is_reserved(word) {
-        return Value::Not(Fault::Reserved);
+        return Err(Fault::Reserved);
     }
-    let operation = operation_of(word, true);
-    match operation {
-        Operation::Of(_, _) => Value::Not(Fault::Operation(place)),
-        Operation::Absent => Value::Name,
+    match operation_of(word, true) {
+        Operation::Of(_, _) => Err(Fault::Operation(place)),
+        Operation::Absent => Ok(Value::Name),
     }
 }
 
 // At a name's place, or of a label.
-fn name(word: &[u8], place: Place) -> Value {
+fn name(word: &[u8], place: Place) -> Result<Value, Fault> {
     if starts_number(word) {
-        return name_number(word, place);
+        return whole(word, place).map(Value::Numbered);
     }
     if is_name(word) {
         return name_text(word, place);
     }
-    Value::Not(Fault::Expected(place))
+    Err(Fault::Expected(place))
 }
 
 // A name after `@`.
-fn label(word: &[u8]) -> Value {
-    if byte_at(word, 0) != b'@' {
-        return Value::Not(Fault::Expected(Place::Label));
-    }
-    let value = name(part(word, 1, word.len()), Place::Label);
-    match value {
-        Value::Name => Value::Label,
-        _ => value,
+fn label(word: &[u8]) -> Result<Value, Fault> {
+    let [b'@', after @ ..] = word else {
+        return Err(Fault::Expected(Place::Label));
+    };
+    match name(after, Place::Label)? {
+        Value::Name => Ok(Value::Label),
+        value => Ok(value),
     }
 }
 
 // A mnemonic in other letters than capitals is told so.
 fn no_operation(word: &[u8]) -> Fault {
-    let operation = operation_of(word, true);
-    match operation {
+    match operation_of(word, true) {
         Operation::Of(family, operator) => Fault::Capitals(family, operator),
         Operation::Absent => Fault::Expected(Place::Operation),
     }
 }
 
-fn operation(word: &[u8]) -> Value {
+fn operation(word: &[u8]) -> Result<Value, Fault> {
     if starts_number(word) {
-        return whole(word, Place::Operation);
+        return whole(word, Place::Operation).map(Value::One);
     }
-    let operation = operation_of(word, false);
-    match operation {
-        Operation::Of(family, operator) => Value::Two(family, operator),
-        Operation::Absent => Value::Not(no_operation(word)),
-    }
-}
-
-fn short_decimal(word: &[u8]) -> Value {
-    let written = decimal(word);
-    match written {
-        Written::Word(bits) => Value::One(bits),
-        Written::Not(fault) => Value::Not(instead(fault, Place::Real)),
+    match operation_of(word, false) {
+        Operation::Of(family, operator) => Ok(Value::Two(family, operator)),
+        Operation::Absent => Err(no_operation(word)),
     }
 }
 
 // Digits without a point or an exponent could mean the value or the bits.
-fn pointless(word: &[u8]) -> Value {
-    let value = whole(word, Place::Real);
-    match value {
-        Value::Not(fault) => Value::Not(fault),
-        _ => Value::Not(Fault::NoPoint),
-    }
-}
-
-fn real(word: &[u8]) -> Value {
+fn real(word: &[u8]) -> Result<u64, Fault> {
     if !starts_number(word) {
-        return stranger(word, Place::Real);
+        return Err(stranger(word, Place::Real));
     }
-    if byte_at(word, 1) == b'x' {
+    if matches!(word, [_, b'x', ..]) {
         return whole(word, Place::Real);
     }
-    if has(word, b'.') | (has(word, b'e') | has(word, b'E')) {
-        return short_decimal(word);
+    if word.iter().any(|byte| matches!(*byte, b'.' | b'e' | b'E')) {
+        return read_real(word).map_err(|fault| instead(fault, Place::Real));
     }
-    pointless(word)
+    whole(word, Place::Real)?;
+    Err(Fault::NoPoint)
 }
 
 // A word of the place's list, or a whole number.
-fn listed(word: &[u8], place: Place) -> Value {
+fn listed(word: &[u8], place: Place) -> Result<u64, Fault> {
     if starts_number(word) {
         return whole(word, place);
     }
-    let number = number_of(place, word);
-    match number {
-        Listed::At(n) => Value::One(n as u64),
-        Listed::Absent => stranger(word, place),
+    match number_of(place, word) {
+        Listed::At(n) => Ok(n as u64),
+        Listed::Absent => Err(stranger(word, place)),
     }
 }
 
-fn dash(place: Place) -> Value {
+fn dash(place: Place) -> Result<Value, Fault> {
     match place {
-        Place::Unused => Value::One(0),
-        _ => Value::Not(Fault::Expected(place)),
+        Place::Unused => Ok(Value::One(0)),
+        _ => Err(Fault::Expected(place)),
     }
 }
 
-pub fn read_word(word: &[u8], place: Place) -> Value {
-    if same(word, b"-") {
+pub fn read_word(word: &[u8], place: Place) -> Result<Value, Fault> {
+    if let b"-" = word {
         return dash(place);
     }
     match place {
         Place::Name => name(word, place),
         Place::Label => label(word),
         Place::Operation => operation(word),
-        Place::Real => real(word),
-        _ => listed(word, place),
+        Place::Real => real(word).map(Value::One),
+        _ => listed(word, place).map(Value::One),
     }
 }

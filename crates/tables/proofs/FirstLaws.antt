@@ -75,7 +75,7 @@ module _ (test : ℕ → Bool) (n : ℕ) where
     every-end h = sym (first-end _ _ _ n i h) ∙ inv
 
 -- a search for the first row that fails met none: each row passes
-from-every : (test : ℕ → Bool) (n i : ℕ) → every_from test i n ≡ true → (k : ℕ) → i ≤ k → k < i + n → test k ≡ true
+pub from-every : (test : ℕ → Bool) (n i : ℕ) → every_from test i n ≡ true → (k : ℕ) → i ≤ k → k < i + n → test k ≡ true
 unfolding first
 from-every test zero i e k l h = absurd (omega arith)
 from-every test (suc n) i e k l h = at (test i) refl e (ℕ_discrete k i) (λ z l h. from-every test n (i + 1) z k l h)
@@ -91,7 +91,7 @@ unfolding every
 every-row test n e k h = from-every test n 0 e k (omega arith) (omega arith)
 
 -- and where each row passes, every row does
-all_from : (test : ℕ → Bool) (n i : ℕ) → ((k : ℕ) → i ≤ k → k < i + n → test k ≡ true) → every_from test i n ≡ true
+pub all_from : (test : ℕ → Bool) (n i : ℕ) → ((k : ℕ) → i ≤ k → k < i + n → test k ≡ true) → every_from test i n ≡ true
 unfolding first
 all_from test zero i all = refl
 all_from test (suc n) i all = rw (all i (omega arith) (omega arith)) (all_from test n (i + 1) (λ k l h. all k (omega arith) (omega arith)))

@@ -13,25 +13,42 @@ use Rattle.std.specs.declared.ops.Range.{Range}
 use denote.Param.Members.{Mut}
 use denote.Ref.{Bor}
 use native.Mathlib.Decide.{ℕ_discrete}
-use Rattle.tables.specs.First.{first, every}
-use Rattle.tables.proofs.FirstLaws.{first-none, first-all, every-all, every_miss}
+use Rattle.tables.specs.First.{first, every_from, every}
+use Rattle.tables.proofs.FirstLaws.{never, first-none, first-all, from-every, all_from, every-start}
 
-module _ (test : ℕ → Bool) (n : ℕ) where
+module _ (test : ℕ → Bool) (i n : ℕ) where
+  -- the rows that are looked at
+  abbrev looked : List ℕ
+  looked = range_with_len i (n - i)
+
   -- the number at place k
-  number_at : (b : Bool) (k : ℕ) → k < n → test (get_or (range_with_len 0 n) k 0) ≡ b → test k ≡ b
-  number_at b k h t = let e : get_or (range_with_len 0 n) k 0 ≡ k = get_or-range_with_len 0 n k 0 h ∙ omega arith in subst (λ j. test j ≡ b) e t
+  number_at : (b : Bool) (k : ℕ) → k < n - i → test (get_or looked k 0) ≡ b → test (i + k) ≡ b
+  number_at b k h t = subst (λ j. test j ≡ b) (get_or-range_with_len i (n - i) k 0 h) t
 
-  decided : (r : Bool) → MatchBool r (AllWithin (λ k. test k ≡ true) (range_with_len 0 n) 0 (length (range_with_len 0 n))) ((k : ℕ) × (k < length (range_with_len 0 n)) × HoldsAt (λ k. test k ≡ false) (range_with_len 0 n) k) → r ≡ every test n
-  decided true all = sym (every-all test n (λ k h. number_at true k h (all k 0 (omega arith) (omega (arith, length-range_with_len 0 n)))))
-  decided false (k, h, fails) = let l : k < n = omega (arith, length-range_with_len 0 n) in every_miss test n k l (number_at false k l (fails 0))
+  decided : (r : Bool) → MatchBool r (AllWithin (λ k. test k ≡ true) looked 0 (length looked)) ((k : ℕ) × (k < length looked) × HoldsAt (λ k. test k ≡ false) looked k) → r ≡ every_from test i (n - i)
+  decided true all =
+      sym (all_from test (n - i) i (λ k l h. let e : i + (k - i) ≡ k = omega arith in rw e at (number_at true (k - i) (omega arith) (all (k - i) 0 (omega arith) (omega (arith, length-range_with_len i (n - i)))))))
+  decided false (k, h, fails) = let l : k < n - i = omega (arith, length-range_with_len i (n - i)) in miss k l (number_at false k l (fails 0)) (every_from test i (n - i)) refl
+    where
+      miss : (k : ℕ) → k < n - i → test (i + k) ≡ false → (t : Bool) → every_from test i (n - i) ≡ t → false ≡ t
+      miss k l f true e = never (sym f ∙ from-every test (n - i) i e (i + k) (omega arith) (omega arith))
+      miss k l f false e = refl
 
-  -- `(0..n).all` of a closure that computes the test
-  pub every-from_all : {F : Type 0} {g : Mut F (ℕ × Unit {0}) Bool} (u : Range ℕ) (f : F) (r : Bool)
-      → (xs : List ℕ) × (o : Option ℕ) × (j : F) × YieldsThen nat_range_steps (record { start = 0; end = n }) xs o u × FoldsTo (λ p x q. Called g p (x, tt) true q) f xs j × MatchOption o (r ≡ true) (λ x. (r ≡ false) × ((h : F) × Called g j (x, tt) false h))
+  -- `(i..n).all` of a closure that computes the test
+  pub every_from-from_all : {F : Type 0} {g : Mut F (ℕ × Unit {0}) Bool} (u : Range ℕ) (f : F) (r : Bool)
+      → (xs : List ℕ) × (o : Option ℕ) × (j : F) × YieldsThen nat_range_steps (record { start = i; end = n }) xs o u × FoldsTo (λ p x q. Called g p (x, tt) true q) f xs j × MatchOption o (r ≡ true) (λ x. (r ≡ false) × ((h : F) × Called g j (x, tt) false h))
       → ((x : ℕ) (q : F) → Called g f (x, tt) true q → (q ≡ f) × (test x ≡ true))
       → ((x : ℕ) (q : F) → Called g f (x, tt) false q → test x ≡ false)
-      → r ≡ every test n
-  every-from_all u f r ran holds fails = decided r (cases_from_all u f r (λ k. test k ≡ true) (λ k. test k ≡ false) ran (YieldsList-from_range 0 n n refl (omega arith)) holds fails)
+      → r ≡ every_from test i (n - i)
+  every_from-from_all u f r ran holds fails = decided r (cases_from_all u f r (λ k. test k ≡ true) (λ k. test k ≡ false) ran (YieldsList-from_range i n (n - i) refl refl) holds fails)
+
+-- and of all rows
+pub every-from_all : (test : ℕ → Bool) (n : ℕ) {F : Type 0} {g : Mut F (ℕ × Unit {0}) Bool} (u : Range ℕ) (f : F) (r : Bool)
+    → (xs : List ℕ) × (o : Option ℕ) × (j : F) × YieldsThen nat_range_steps (record { start = 0; end = n }) xs o u × FoldsTo (λ p x q. Called g p (x, tt) true q) f xs j × MatchOption o (r ≡ true) (λ x. (r ≡ false) × ((h : F) × Called g j (x, tt) false h))
+    → ((x : ℕ) (q : F) → Called g f (x, tt) true q → (q ≡ f) × (test x ≡ true))
+    → ((x : ℕ) (q : F) → Called g f (x, tt) false q → test x ≡ false)
+    → r ≡ every test n
+every-from_all test n u f r ran holds fails = every_from-from_all test 0 n u f r ran holds fails ∙ every-start test n
 
 -- ---- a search of the rows from i to before n: the first that passes, if one does
 

@@ -1,25 +1,22 @@
--- What the verdict on a program says: an error is the judgement on one of its rows; where it is accepted, each row passes. And a row's judgement, by
--- its family; and what the check asks for, from the loader's acceptance. Assumes nothing.
+-- What the verdict on a program says: an error is the judgement on one of its rows; where it is accepted, each row passes. And the judgement
+-- on a row that is no frame; and what the check asks for, from the loader's acceptance. Assumes nothing.
 use Rattle.std.proofs.Common.{Ok, Err}
-use Prim.Native.Nat.{ℕ, ◌+◌, ◌<◌, ◌≤◌}
-use mathlib.Core.Bool.{true, false, cond}
+use Prim.Native.Nat.{ℕ, ◌+◌, ◌<◌}
+use mathlib.Core.Bool.{true, false}
 use mathlib.Core.List.{List}
 use mathlib.Core.Logic.{⊎_elim}
 use mathlib.Core.Path.{◌≡◌, refl, sym, ap, ◌∙◌}
 use native.Mathlib.Omega.{arith}
-use borrow.Author.Tests.{eqb-false, eq-eqb, ne_eqb}
+use borrow.Author.Tests.{eqb-false, ne_eqb}
 use lib.Dec.{eqb}
 use Rattle.tables.specs.Family as family
 use Rattle.tables.specs.Tables.{Tables}
 use Rattle.tables.specs.Rows.{instruction_rows, instruction_at}
 use Rattle.tables.specs.declared.rows.Instruction.{Instruction}
-use Rattle.tables.proofs.Cases.{Missed, other_arm}
 use Rattle.loader.proofs.Loaded.{Loaded, frame-inside}
 use Rattle.type_rules.specs.Judgement.{Judgement, pass, fail, verdict_at}
-use Rattle.type_rules.specs.Rule.{rules, rule_of}
-use Rattle.type_rules.specs.Codes.{first_code, second_code, reference_code, operand_code, source_code, row_rule}
-use Rattle.type_check.specs.Frame.{frame_rule}
-use Rattle.type_check.specs.Check.{judgement_of, verdict_of, is_error, row_verdict, check_of, FrameInside, FramesInside}
+use Rattle.type_rules.specs.Codes.{row_rule}
+use Rattle.type_check.specs.Check.{judgement_of, verdict_of, is_error, row_verdict, check_of, FramesInside}
 use Rattle.type_rules.specs.declared.error.TypeError.{TypeError}
 use Rattle.type_check.proofs.Searches.{searched}
 
@@ -32,23 +29,6 @@ module _ (regions nodes : List ℕ) (x : Instruction) where
   pub row_judgement : (x.family ≡ family.frame → ⊥) → judgement_of regions nodes x ≡ row_rule regions x
   unfolding judgement_of
   row_judgement ne = rw (ne_eqb _ _ ne)
-
-  pub frame_judgement : x.family ≡ family.frame → judgement_of regions nodes x ≡ frame_rule regions nodes x
-  unfolding judgement_of
-  frame_judgement e = rw (eq-eqb _ _ e)
-
-  -- the rule of family k
-  pub family_judgement : (k : ℕ) → x.family ≡ k → eqb k family.frame ≡ false → judgement_of regions nodes x ≡ rule_of k x.operator (first_code regions x) (second_code regions x) (cond (eqb k family.load) (reference_code regions x) (operand_code regions x))
-  unfolding judgement_of row_rule source_code
-  family_judgement k e f = rw (ap (λ (n : ℕ). eqb n family.frame) e ∙ f, ap (λ (n : ℕ). eqb n family.load) e, e)
-
-  abbrev pub ruled : List (ℕ × Judgement)
-  ruled = rules x.operator (first_code regions x) (second_code regions x) (source_code regions x)
-
-  -- "Families 9 and 10 pass."
-  pub other_judgement : (x.family ≡ family.frame → ⊥) → Missed (Unit {0}) ruled x.family → judgement_of regions nodes x ≡ pass
-  unfolding row_rule rule_of
-  other_judgement ne m = row_judgement ne ∙ sym (other_arm ruled pass x.family m)
 
 passes : (row : ℕ) (j : Judgement) → is_error (verdict_at row j) ≡ false → j ≡ pass
 passes row pass q = refl

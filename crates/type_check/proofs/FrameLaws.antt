@@ -1,6 +1,6 @@
 -- What a tree's verdict says: a failing node is one of the tree's. Assumes nothing.
 use Rattle.std.proofs.Common.{ap}
-use Rattle.std.proofs.Common.{Result, Ok, Err}
+use Rattle.std.specs.Prelude.{Result, Ok, Err}
 use Prim.Native.Nat.{ℕ, ◌+◌, ◌<◌}
 use mathlib.Core.List.{List}
 use mathlib.Core.Logic.{⊎_elim}

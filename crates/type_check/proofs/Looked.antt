@@ -1,14 +1,15 @@
 -- The count of the nodes looked at, as specs/Looked.antt claims it. Assumes nothing.
-use Rattle.type_check.specs.declared.frame.NodeError.{NodeError}
-use Rattle.std.proofs.Common.{Result, Ok, Err}
+use Rattle.type_check.specs.Frame.{TreeVerdict}
+use Rattle.std.specs.Prelude.{Result, Ok, Err}
 use Prim.Native.Nat.{ℕ, zero, suc, ◌+◌}
 use mathlib.Core.Bool.{cond}
 use mathlib.Core.List.{List}
 use mathlib.Core.Path.{◌≡◌, refl, sym, ap, ◌∙◌}
 use native.Mathlib.Omega.{arith}
 use Rattle.tables.specs.First.{first}
-use Rattle.type_check.specs.Frame.{TreeVerdict, is_failure, at_place, verdict_there, tree_from, tree_verdict}
+use Rattle.type_check.specs.Frame.{is_failure, at_place, verdict_there, tree_from, tree_verdict}
 use Rattle.type_check.specs.Looked.{looked_from, place_plus_one_or, LookedIs, tree_check}
+use Rattle.type_check.specs.declared.frame.NodeError.{NodeError}
 
 -- a turn: the node at the place fails and is the last, or the rest is as claimed
 turn : (v : Result (Unit {0}) NodeError) (place rest n : ℕ) (later : TreeVerdict) → place + 1 + rest ≡ place_plus_one_or later (place + 1 + n)

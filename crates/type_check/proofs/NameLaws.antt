@@ -1,5 +1,5 @@
 -- A row's judgement depends on the codes of the names that the row uses, and on no other declaration. Assumes nothing.
-use Rattle.std.proofs.Common.{Ok}
+use Rattle.std.specs.Prelude.{Ok}
 use Prim.Native.Nat.{ℕ, ◌+◌, ◌<◌}
 use mathlib.Core.Bool.{Bool, true, false, cond, ◌||◌}
 use mathlib.Core.List.{List, [], ◌∷◌}

@@ -22,6 +22,7 @@ pub enum NodeError {
     NotReal(u64),
 }
 
+#[tactic(auto, unfolding(crate::specs::Frame::address_rule, type_rules::specs::Codes::code_of, type_rules::specs::Codes::kind_code))]
 fn check_address(regions: &[u64], name: u64) -> Result<(), NodeError>
     ensures { result ≡ address_rule (code_of regions.now name) }
 {
@@ -35,6 +36,7 @@ fn check_address(regions: &[u64], name: u64) -> Result<(), NodeError>
     }
 }
 
+#[tactic(auto, unfolding(crate::specs::Frame::number_verdict))]
 fn check_number(imaginary: u64) -> Result<(), NodeError>
     ensures { result ≡ number_verdict imaginary }
 {
@@ -46,6 +48,7 @@ fn check_number(imaginary: u64) -> Result<(), NodeError>
 }
 
 // One node by itself; its children are rows of their own.
+#[tactic(auto, unfolding(crate::specs::Frame::node_verdict, tables::specs::Cases::case_of))]
 fn should_be_real(regions: &[u64], node: Node) -> Result<(), NodeError>
     ensures { result ≡ node_verdict regions.now node }
 {
@@ -58,7 +61,7 @@ fn should_be_real(regions: &[u64], node: Node) -> Result<(), NodeError>
     }
 }
 
-// What was found, and how many nodes were looked at.
+// The first failing node by its place, counted from 0, and how many nodes were looked at.
 #[derive(Drop)]
 pub struct TreeCheck {
     pub verdict: Result<(), (u64, NodeError)>,
@@ -70,21 +73,17 @@ fn check_tree(regions: &[u64], nodes: &[u64], first: usize, count: usize) -> Tre
     requires { first + count ≤ node_rows nodes.now }
     ensures { result ≡ tree_check regions.now nodes.now first count }
 {
-    let mut looked = 0;
-    while looked < count {
-        let place = looked;
-        let verdict = should_be_real(regions, node_at(nodes, first + place));
-        looked += 1;
-        if let Err(error) = verdict {
+    for place in 0..count {
+        if let Err(error) = should_be_real(regions, node_at(nodes, first + place)) {
             return TreeCheck {
                 verdict: Err((place as u64, error)),
-                looked: looked as u64,
+                looked: place as u64 + 1,
             };
         }
     }
     TreeCheck {
         verdict: Ok(()),
-        looked: looked as u64,
+        looked: count as u64,
     }
 }
 

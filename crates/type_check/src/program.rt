@@ -12,6 +12,7 @@ use type_rules::rules::{
     type_check_load, type_check_move, type_check_store, type_check_unary_logic,
 };
 
+#[tactic(auto, unfolding(crate::specs::Check::verdict_of, crate::specs::Check::judgement_of, crate::specs::Looked::frame_check, type_rules::specs::Codes::row_rule, type_rules::specs::Codes::source_code, type_rules::specs::Rule::rule_of, tables::specs::Cases::case_of))]
 pub fn check_row(regions: &[u64], nodes: &[u64], row: u64, x: Instruction) -> Result<(), TypeError>
     requires { FrameInside nodes.now x }
     ensures { result ≡ verdict_of regions.now nodes.now row x }
@@ -36,8 +37,7 @@ pub fn check_program(regions: &[u64], nodes: &[u64], instructions: &[u64]) -> Re
     ensures { result ≡ check_of regions.now nodes.now instructions.now }
 {
     let rows = instructions.len() / INSTRUCTION_WIDTH;
-    let mut row = 0;
-    while row < rows {
+    for row in 0..rows {
         let verdict = check_row(
             regions,
             nodes,
@@ -47,7 +47,6 @@ pub fn check_program(regions: &[u64], nodes: &[u64], instructions: &[u64]) -> Re
         if let Err(error) = verdict {
             return Err(error);
         }
-        row += 1;
     }
     Ok(())
 }

@@ -1,4 +1,3 @@
 -- Laws that the proofs share, here and in the crates above.
-pub mod SourceLaws
 pub mod NodesLaws
 pub mod ChildrenLaws

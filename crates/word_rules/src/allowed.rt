@@ -1,4 +1,6 @@
 // Refusal 2, of every table but the instructions: the words that each row allows.
+#![tactic(auto, unfolding(crate::specs::Allowed::region_allowed, crate::specs::Allowed::extern_allowed, crate::specs::Allowed::parameter_allowed, crate::specs::Allowed::node_allowed, crate::specs::Allowed::argument_allowed, tables::specs::Cases::case_of))]
+
 ghost use Rattle.std.specs.Prelude.{◌≡◌, ◌-◌, ◌≤◌};
 ghost use Rattle.tables.specs.Rows.{node_rows};
 ghost use Rattle.word_rules.specs.Allowed.{region_allowed, extern_allowed, parameter_allowed, node_allowed, argument_allowed, regions_allowed, externs_allowed, parameters_allowed, nodes_allowed_from, arguments_allowed};
@@ -6,8 +8,9 @@ ghost use Rattle.word_rules.specs.Allowed.{region_allowed, extern_allowed, param
 use tables::parameter_shape::{FIXED_VECTOR, NO_RETURN, VARIABLE_VECTOR};
 use tables::rows::{
     ARGUMENT_WIDTH, Argument, EXTERN_WIDTH, Extern, Node, PARAMETER_WIDTH, Parameter, REGION_WIDTH,
-    Region,
+    Region, argument_at, extern_at, node_at, parameter_at, region_at,
 };
+use tables::tree::range_inside;
 use tables::{argument_form, node_tag};
 use words::kind::REAL;
 
@@ -21,8 +24,7 @@ fn region_allowed(x: Region) -> bool
 fn extern_allowed(x: Extern, parameters: usize) -> bool
     ensures { result ≡ extern_allowed parameters x }
 {
-    (x.return_kind <= NO_RETURN)
-        & tables::tree::range_inside(x.first_parameter, x.parameter_count, parameters)
+    (x.return_kind <= NO_RETURN) & range_inside(x.first_parameter, x.parameter_count, parameters)
 }
 
 // By branches, for speed.
@@ -48,10 +50,8 @@ pub fn node_allowed(x: Node) -> bool
     if (x.first == 0) & (x.second == 0) {
         return x.tag <= node_tag::VARIABLE;
     }
-    let tag = x.tag;
-    match tag {
-        node_tag::ADDRESS => true,
-        node_tag::NUMBER => true,
+    match x.tag {
+        node_tag::ADDRESS | node_tag::NUMBER => true,
         node_tag::VARIABLE => x.second == 0,
         _ => false,
     }
@@ -60,11 +60,9 @@ pub fn node_allowed(x: Node) -> bool
 fn argument_allowed(x: Argument) -> bool
     ensures { result ≡ argument_allowed x }
 {
-    let form = x.form;
-    match form {
+    match x.form {
         argument_form::IDENTIFIER => x.second == 0,
-        argument_form::REFERENCE => true,
-        argument_form::IMMEDIATE => true,
+        argument_form::REFERENCE | argument_form::IMMEDIATE => true,
         _ => false,
     }
 }
@@ -73,42 +71,21 @@ pub fn regions_allowed(regions: &[u64]) -> bool
     ensures { result ≡ regions_allowed regions.now }
 {
     let rows = regions.len() / REGION_WIDTH;
-    let mut i = 0;
-    while i < rows {
-        if !region_allowed(tables::rows::region_at(regions, i)) {
-            return false;
-        }
-        i += 1;
-    }
-    true
+    (0..rows).all(|row| region_allowed(region_at(regions, row)))
 }
 
 pub fn externs_allowed(externs: &[u64], parameters: usize) -> bool
     ensures { result ≡ externs_allowed parameters externs.now }
 {
     let rows = externs.len() / EXTERN_WIDTH;
-    let mut i = 0;
-    while i < rows {
-        if !extern_allowed(tables::rows::extern_at(externs, i), parameters) {
-            return false;
-        }
-        i += 1;
-    }
-    true
+    (0..rows).all(|row| extern_allowed(extern_at(externs, row), parameters))
 }
 
 pub fn parameters_allowed(parameters: &[u64]) -> bool
     ensures { result ≡ parameters_allowed parameters.now }
 {
     let rows = parameters.len() / PARAMETER_WIDTH;
-    let mut i = 0;
-    while i < rows {
-        if !parameter_allowed(tables::rows::parameter_at(parameters, i)) {
-            return false;
-        }
-        i += 1;
-    }
-    true
+    (0..rows).all(|row| parameter_allowed(parameter_at(parameters, row)))
 }
 
 // The nodes from `first` to before `end`.
@@ -116,26 +93,12 @@ pub fn nodes_allowed(nodes: &[u64], first: usize, end: usize) -> bool
     requires { end ≤ node_rows nodes.now }
     ensures { result ≡ nodes_allowed_from nodes.now first (end - first) }
 {
-    let mut i = first;
-    while i < end {
-        if !node_allowed(tables::rows::node_at(nodes, i)) {
-            return false;
-        }
-        i += 1;
-    }
-    true
+    (first..end).all(|row| node_allowed(node_at(nodes, row)))
 }
 
 pub fn arguments_allowed(arguments: &[u64]) -> bool
     ensures { result ≡ arguments_allowed arguments.now }
 {
     let rows = arguments.len() / ARGUMENT_WIDTH;
-    let mut i = 0;
-    while i < rows {
-        if !argument_allowed(tables::rows::argument_at(arguments, i)) {
-            return false;
-        }
-        i += 1;
-    }
-    true
+    (0..rows).all(|row| argument_allowed(argument_at(arguments, row)))
 }

@@ -1,4 +1,6 @@
 // What a pass over the nodes asks of each: whether its words are allowed, and how many children it has.
+#![tactic(auto, unfolding(tables::specs::Tree::arity_of, crate::specs::Allowed::node_allowed, tables::specs::Cases::case_of))]
+
 ghost use Rattle.std.specs.Prelude.{◌≡◌};
 ghost use Rattle.word_rules.specs.Children.{children_of};
 

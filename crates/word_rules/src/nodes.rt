@@ -13,17 +13,16 @@ pub fn nodes_end(nodes: &[u64], ends: &mut [u16]) -> bool
     requires { (node_rows nodes.now ≤ node_limit) × (node_rows nodes.now + 1 < length ends.old) }
     ensures { (result ≡ nodes_allowed nodes.now) × (result ≡ true → EndsFrom nodes.now ends.new 0) }
 {
-    let mut i = nodes.len() / NODE_WIDTH;
-    let mut end = i + 1;
+    let rows = nodes.len() / NODE_WIDTH;
+    let mut end = rows + 1;
     ends[end] = end as u16;
-    ends[i] = end as u16;
-    while 0 < i {
-        i -= 1;
-        let Some(children) = children_of(node_at(nodes, i)) else {
+    ends[rows] = end as u16;
+    for row in (0..rows).rev() {
+        let Some(children) = children_of(node_at(nodes, row)) else {
             return false;
         };
-        end = tree_end(nodes, ends, i, end, children);
-        ends[i] = end as u16;
+        end = tree_end(nodes, ends, row, end, children);
+        ends[row] = end as u16;
     }
     true
 }

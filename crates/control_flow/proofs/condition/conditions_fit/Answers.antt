@@ -1,6 +1,6 @@
-use Rattle.std.proofs.Common.{rules, ◌≡◌, ℕ, Bool, true, false, sym, ◌∙◌, refl}
+use Rattle.std.proofs.Common.{rules}
 use Rattle.tables.proofs.RowsLaws.{every-from_all}
-use Rattle.control_flow.specs.Condition.{has_condition, condition_fits, conditions_fit}
+use Rattle.control_flow.specs.Condition.{conditions_fit}
 use Rattle.control_flow.proofs.condition.conditions_fit.Goals as goal
 
 pub returns : goal.returns

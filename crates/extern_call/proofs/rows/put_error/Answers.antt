@@ -5,4 +5,4 @@ pub returns-in_default : goal.returns-in_default
 returns-in_default c = rw c.in_default.is (none_stored _ _ _ _)
 
 pub returns : goal.returns
-returns c = rw c.in-Err.is (one_stored _ _ _ _ _ _ (rw c.error_row-words.ensures at c.store.ensures))
+returns c = rw c.in-Err.is (one_stored _ _ _ _ _ _ (rw c.error_row.ensures at c.store.ensures))

@@ -1,4 +1,3 @@
-use Prim.Native.Nat.{◌-◌}
 use native.Mathlib.Omega.{arith}
 use Rattle.extern_call.specs.Call.{resolution_at}
 use Rattle.extern_call.specs.Rows.{resolved_arguments}
@@ -15,12 +14,6 @@ resolve_at-r-requires c = counted-paired _ c.requires.0 c.loop-i-test.true
 
 pub put_resolved-count-requires : goal.put_resolved-count-requires
 put_resolved-count-requires c = omega (arith, c.loop-i.invariant.few, c.loop-i.invariant.same)
-
-pub overflow_add-i : goal.overflow_add-i
-overflow_add-i c = omega arith
-
-pub loop-i-smaller : goal.loop-i-smaller
-loop-i-smaller c = omega arith
 
 pub loop-i-preserved : goal.loop-i-preserved
 loop-i-preserved c =
