@@ -4,9 +4,10 @@ ghost use Rattle.std.specs.Prelude.{◌≡◌};
 ghost use Rattle.type_rules.specs.Judgement.{undefined_memory_reference, data_type_mismatch, real_value_required, operator_operand_mismatch, verdict_at};
 
 use crate::code::{ABSENT, DATA_TYPE, NO_SPOT, OPERAND, REAL_REQUIRED, UNDEFINED};
+use tables::refusal::Refusal;
 
 // 01's six words.
-#[derive(Clone, Copy)]
+#[derive(Clone, Copy, PartialEq, Eq, Debug)]
 pub struct TypeError {
     pub kind: u64,
     pub row: u64,
@@ -14,6 +15,33 @@ pub struct TypeError {
     pub src_spot: u64,
     pub first_code: u64,
     pub second_code: u64,
+}
+
+// Why a program is turned down: a refusal; or 5, with the first type error.
+#[derive(Clone, Copy, PartialEq, Eq, Debug)]
+pub enum ProgramError {
+    Refused(Refusal),
+    Type(TypeError),
+}
+
+impl From<Refusal> for ProgramError {
+    ghost use Rattle.type_rules.specs.declared.error.ProgramError.{ProgramError};
+
+    ghost from_gives = { λ r e. e ≡ ProgramError.Refused r };
+
+    fn from(refusal: Refusal) -> Self {
+        ProgramError::Refused(refusal)
+    }
+}
+
+impl From<TypeError> for ProgramError {
+    ghost use Rattle.type_rules.specs.declared.error.ProgramError.{ProgramError};
+
+    ghost from_gives = { λ x e. e ≡ ProgramError.Type x };
+
+    fn from(error: TypeError) -> Self {
+        ProgramError::Type(error)
+    }
 }
 
 pub fn undefined_memory_reference(row: u64, spot: u64) -> Result<(), TypeError>
