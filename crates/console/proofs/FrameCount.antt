@@ -1,9 +1,11 @@
 -- What the call tells of the nodes looked at, as specs/Frame.antt claims it. Assumes nothing.
-use Rattle.std.proofs.Common.{Ok, Err}
+use Rattle.console.specs.declared.frame.FrameError.{FrameError}
+use Rattle.console.specs.declared.frame.FrameError.TheVariants as F
+use Rattle.std.proofs.Common.{Ok, Err, Result}
 use Prim.Native.Nat.{ℕ}
 use mathlib.Core.Path.{◌≡◌}
 use native.Mathlib.Omega.{arith}
-use Rattle.tables.specs.Outcome.{Outcome, ok, refuse}
+use Rattle.tables.specs.Outcome.{Outcome}
 use Rattle.tables.specs.Family as family
 use Rattle.tables.specs.Rows.{instruction_at}
 use Rattle.tables.specs.declared.rows.Instruction.{Instruction}
@@ -15,14 +17,12 @@ use Rattle.type_check.specs.declared.frame.NodeError.TheVariants.{Undefined, Not
 use Rattle.type_check.proofs.Looked.{looked_is}
 use Rattle.console.specs.Answer.{after}
 use Rattle.console.specs.Frame.{with_count, frame_answer, CountOf, frame_tables, FrameCount}
-use Rattle.console.specs.declared.frame.FrameAnswer.{FrameAnswer}
-use Rattle.console.specs.declared.frame.FrameAnswer.TheVariants.{Refused}
 
 module _ (x : Instruction) where
   -- a refusal tells no count
-  refused_or : {A : Type 0} (o : Outcome A) (rest : FrameAnswer) → CountOf x rest → CountOf x (after o Refused rest)
-  refused_or (ok a) rest h = h
-  refused_or (refuse number) rest h = tt
+  refused_or : {A : Type 0} (o : Outcome A) (rest : Result ℕ FrameError) → CountOf x rest → CountOf x (after o (λ r. Err (F.Refused r)) rest)
+  refused_or (Ok a) rest h = h
+  refused_or (Err number) rest h = tt
 
   -- by the tree's verdict
   counted : (v : TreeVerdict) (row looked : ℕ) → looked ≡ place_plus_one_or v x.first_index → CountOf x (with_count (verdict_at row (tree_rule v)) looked)

@@ -4,10 +4,9 @@ ghost use Rattle.tables.specs.Tables.{tables_of};
 ghost use Rattle.access_sets.specs.Access.{accessing};
 ghost use Rattle.console.specs.Access.{access_tables};
 
-use access_sets::access::{AccessAnswer, access_call};
+use access_sets::access::access_call;
 use loader::load::load_row;
 use tables::family::CALL;
-use tables::look::Look;
 use tables::rows::instruction_at;
 
 pub fn access(
@@ -20,7 +19,7 @@ pub fn access(
     row: usize,
     reads: &mut [u64],
     writes: &mut [u64],
-) -> AccessAnswer
+) -> Result<(usize, usize), Refusal>
     ensures { accessing result reads.new writes.new ≡ access_tables (tables_of regions.now externs.now parameters.now nodes.now arguments.now instructions.now) row reads.old writes.old }
 {
     let loaded = load_row(
@@ -33,8 +32,8 @@ pub fn access(
         row,
         CALL,
     );
-    if let Look::Refused(number) = loaded {
-        return AccessAnswer::Refused(number);
+    if let Err(number) = loaded {
+        return Err(number);
     }
     let x = instruction_at(instructions, row);
     access_call(externs, parameters, arguments, x, reads, writes)

@@ -4,24 +4,15 @@ ghost use Rattle.tables.specs.Tables.{tables_of};
 ghost use Rattle.console.specs.Check.{verdict_answer, check_tables};
 
 use loader::load::load_tables;
-use tables::look::Look;
 use type_check::program::check_program;
-use type_rules::error::{TypeError, Verdict};
+use type_rules::error::{ProgramError, TypeError};
 
-// Accepted, a refusal by its number, or 5 with the first type error.
-#[derive(Drop)]
-pub enum CheckAnswer {
-    Accepted,
-    Refused(u64),
-    Error(TypeError),
-}
-
-fn verdict_answer(verdict: Verdict) -> CheckAnswer
+fn verdict_answer(verdict: Result<(), TypeError>) -> Result<(), ProgramError>
     ensures { result ≡ verdict_answer verdict }
 {
     match verdict {
-        Verdict::Accepted => CheckAnswer::Accepted,
-        Verdict::Error(error) => CheckAnswer::Error(error),
+        Ok(()) => Ok(()),
+        Err(error) => Err(ProgramError::Type(error)),
     }
 }
 
@@ -32,12 +23,12 @@ pub fn check(
     nodes: &[u64],
     arguments: &[u64],
     instructions: &[u64],
-) -> CheckAnswer
+) -> Result<(), ProgramError>
     ensures { result ≡ check_tables (tables_of regions.now externs.now parameters.now nodes.now arguments.now instructions.now) }
 {
     let loaded = load_tables(regions, externs, parameters, nodes, arguments, instructions);
-    if let Look::Refused(number) = loaded {
-        return CheckAnswer::Refused(number);
+    if let Err(number) = loaded {
+        return Err(ProgramError::Refused(number));
     }
     verdict_answer(check_program(regions, nodes, instructions))
 }

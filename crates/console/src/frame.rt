@@ -3,28 +3,20 @@ ghost use Rattle.std.specs.Prelude.{◌≡◌};
 ghost use Rattle.tables.specs.Tables.{tables_of};
 ghost use Rattle.console.specs.Frame.{frame_answer, frame_tables};
 
+use crate::frame::FrameError;
 use loader::load::load_row;
 use tables::family::FRAME;
-use tables::look::Look;
 use tables::rows::instruction_at;
 use type_check::frame::{FrameCheck, check_frame};
-use type_rules::error::{TypeError, Verdict};
+use type_rules::error::TypeError;
 
-// Accepted, a refusal by its number, or 5 with the type error; the nodes looked at where the check was made.
-#[derive(Drop)]
-pub enum FrameAnswer {
-    Accepted(u64),
-    Refused(u64),
-    Error(TypeError, u64),
-}
-
-fn frame_answer(checked: FrameCheck) -> FrameAnswer
+fn frame_answer(checked: FrameCheck) -> Result<u64, FrameError>
     ensures { result ≡ frame_answer checked }
 {
     let verdict = checked.verdict;
     match verdict {
-        Verdict::Accepted => FrameAnswer::Accepted(checked.looked),
-        Verdict::Error(error) => FrameAnswer::Error(error, checked.looked),
+        Ok(()) => Ok(checked.looked),
+        Err(error) => Err(FrameError::Type(error, checked.looked)),
     }
 }
 
@@ -36,7 +28,7 @@ pub fn frame(
     arguments: &[u64],
     instructions: &[u64],
     row: usize,
-) -> FrameAnswer
+) -> Result<u64, FrameError>
     ensures { result ≡ frame_tables (tables_of regions.now externs.now parameters.now nodes.now arguments.now instructions.now) row }
 {
     let loaded = load_row(
@@ -49,8 +41,8 @@ pub fn frame(
         row,
         FRAME,
     );
-    if let Look::Refused(number) = loaded {
-        return FrameAnswer::Refused(number);
+    if let Err(number) = loaded {
+        return Err(FrameError::Refused(number));
     }
     let x = instruction_at(instructions, row);
     frame_answer(check_frame(regions, nodes, row as u64, x))

@@ -4,10 +4,9 @@ ghost use Rattle.tables.specs.Tables.{tables_of};
 ghost use Rattle.extern_call.specs.Rows.{resolving};
 ghost use Rattle.console.specs.Resolve.{resolve_tables};
 
-use extern_call::rows::{ResolveAnswer, resolve_call};
+use extern_call::rows::{ResolveError, resolve_call};
 use loader::load::load_row;
 use tables::family::CALL;
-use tables::look::Look;
 use tables::rows::instruction_at;
 
 pub fn resolve(
@@ -19,7 +18,7 @@ pub fn resolve(
     instructions: &[u64],
     row: usize,
     rows: &mut [u64],
-) -> ResolveAnswer
+) -> Result<usize, ResolveError>
     ensures { resolving result rows.new ≡ resolve_tables (tables_of regions.now externs.now parameters.now nodes.now arguments.now instructions.now) row rows.old }
 {
     let loaded = load_row(
@@ -32,8 +31,8 @@ pub fn resolve(
         row,
         CALL,
     );
-    if let Look::Refused(number) = loaded {
-        return ResolveAnswer::Refused(number);
+    if let Err(number) = loaded {
+        return Err(ResolveError::Refused(number));
     }
     let x = instruction_at(instructions, row);
     resolve_call(regions, externs, parameters, arguments, x, rows)

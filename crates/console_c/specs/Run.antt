@@ -1,10 +1,9 @@
 -- console_run: "position in; on 0 the new one", and on 0 the run's words.
-use Rattle.std.specs.Prelude.{ℕ, List}
+use Rattle.session.specs.Answer.{RunAnswer}
+use Rattle.std.specs.Prelude.{ℕ, List, Ok, Err}
 use Rattle.std.proofs.lemmas.List.Edits.{sets}
 use Rattle.tables.specs.Tables.{Tables}
 use Rattle.session.specs.Answer.{run_number}
-use Rattle.session.specs.declared.answer.RunAnswer.{RunAnswer}
-use Rattle.session.specs.declared.answer.RunAnswer.TheVariants.{Ran, Refused}
 use Rattle.session_run.specs.Run.{Running, run_tables}
 use Rattle.console_words.specs.Position.{position_in, position_words}
 use Rattle.console_words.specs.Ran.{ran_words}
@@ -22,12 +21,12 @@ run_words number memory journal position ran = record { number = number; memory 
 
 -- "on 0"
 abbrev pub position_after_run : RunAnswer → List ℕ → List ℕ
-position_after_run (Ran steps stop p) position = sets position 0 (position_words p)
-position_after_run (Refused number p) position = position
+position_after_run (Ok (steps, stop, p)) position = sets position 0 (position_words p)
+position_after_run (Err (number, p)) position = position
 
 abbrev pub ran_after : RunAnswer → List ℕ → List ℕ
-ran_after (Ran steps stop p) ran = sets ran 0 (ran_words steps stop)
-ran_after (Refused number p) ran = ran
+ran_after (Ok (steps, stop, p)) ran = sets ran 0 (ran_words steps stop)
+ran_after (Err (number, p)) ran = ran
 
 abbrev pub run_for : Running → List ℕ → List ℕ → RunWords
 run_for r position ran = run_words (run_number r.answer) r.memory r.journal (position_after_run r.answer position) (ran_after r.answer ran)

@@ -2,7 +2,6 @@ ghost use Rattle.std.specs.Prelude.{◌≡◌};
 ghost use Rattle.tables.specs.Tables.{tables_of};
 ghost use Rattle.console_c.specs.Access.{accessed_words, console_access};
 
-use access_sets::access::AccessAnswer;
 use console::access::access;
 
 pub fn console_access(
@@ -31,8 +30,8 @@ pub fn console_access(
         writes,
     );
     match answer {
-        AccessAnswer::Refused(number) => number,
-        AccessAnswer::Sets(read, written) => {
+        Err(number) => number,
+        Ok((read, written)) => {
             counts[0] = read as u64;
             counts[1] = written as u64;
             0

@@ -32,8 +32,8 @@ pub fn console_back(
         old,
     );
     match answer {
-        StepAnswer::Refused(number, _) => number,
-        StepAnswer::Moved(p) => {
+        Err((number, _)) => number,
+        Ok(p) => {
             write_position(position, p);
             0
         }

@@ -2,9 +2,10 @@ ghost use Rattle.std.specs.Prelude.{◌≡◌};
 ghost use Rattle.tables.specs.Tables.{tables_of};
 ghost use Rattle.console_c.specs.Check.{checked_words, console_check};
 
-use console::check::{CheckAnswer, check};
+use type_rules::error::ProgramError;
+use console::check::check;
 use console_words::error::write_error;
-use tables::refusal::TYPE_ERROR;
+use tables::refusal::Refusal;
 
 pub fn console_check(
     regions: &[u64],
@@ -19,11 +20,11 @@ pub fn console_check(
 {
     let answer = check(regions, externs, parameters, nodes, arguments, instructions);
     match answer {
-        CheckAnswer::Accepted => 0,
-        CheckAnswer::Refused(number) => number,
-        CheckAnswer::Error(e) => {
+        Ok(()) => 0,
+        Err(ProgramError::Refused(number)) => number,
+        Err(ProgramError::Type(e)) => {
             write_error(error, e);
-            TYPE_ERROR
+            Refusal::TypeError
         }
     }
 }

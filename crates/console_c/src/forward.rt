@@ -34,8 +34,8 @@ pub fn console_forward(
         reply,
     );
     match answer {
-        StepAnswer::Refused(number, _) => number,
-        StepAnswer::Moved(p) => {
+        Err((number, _)) => number,
+        Ok(p) => {
             write_position(position, p);
             0
         }

@@ -2,9 +2,9 @@ ghost use Rattle.std.specs.Prelude.{◌≡◌};
 ghost use Rattle.tables.specs.Tables.{tables_of};
 ghost use Rattle.console_c.specs.Frame.{frame_words, console_frame};
 
-use console::frame::{FrameAnswer, frame};
+use console::frame::{FrameError, frame};
 use console_words::error::write_error;
-use tables::refusal::TYPE_ERROR;
+use tables::refusal::Refusal;
 
 pub fn console_frame(
     regions: &[u64],
@@ -29,15 +29,15 @@ pub fn console_frame(
         row as usize,
     );
     match answer {
-        FrameAnswer::Accepted(n) => {
+        Ok(n) => {
             looked[0] = n;
             0
         }
-        FrameAnswer::Refused(number) => number,
-        FrameAnswer::Error(e, n) => {
+        Err(FrameError::Refused(number)) => number,
+        Err(FrameError::Type(e, n)) => {
             looked[0] = n;
             write_error(error, e);
-            TYPE_ERROR
+            Refusal::TypeError
         }
     }
 }

@@ -2,9 +2,10 @@ ghost use Rattle.std.specs.Prelude.{◌≡◌};
 ghost use Rattle.tables.specs.Tables.{tables_of};
 ghost use Rattle.console_c.specs.JournalLength.{length_words, console_journal_length};
 
+use type_rules::error::ProgramError;
 use console_words::error::write_error;
-use session_length::length::{LengthAnswer, journal_length};
-use tables::refusal::TYPE_ERROR;
+use session_length::length::journal_length;
+use tables::refusal::Refusal;
 
 pub fn console_journal_length(
     regions: &[u64],
@@ -20,14 +21,14 @@ pub fn console_journal_length(
 {
     let answer = journal_length(regions, externs, parameters, nodes, arguments, instructions);
     match answer {
-        LengthAnswer::Entries(n) => {
+        Ok(n) => {
             entries[0] = n as u64;
             0
         }
-        LengthAnswer::Refused(number) => number,
-        LengthAnswer::Error(e) => {
+        Err(ProgramError::Refused(number)) => number,
+        Err(ProgramError::Type(e)) => {
             write_error(error, e);
-            TYPE_ERROR
+            Refusal::TypeError
         }
     }
 }

@@ -2,11 +2,12 @@ ghost use Rattle.std.specs.Prelude.{◌≡◌, length};
 ghost use Rattle.tables.specs.Tables.{tables_of};
 ghost use Rattle.console_c.specs.Open.{opened_words, console_open};
 
+use type_rules::error::ProgramError;
 use console_session::open::open;
 use console_words::error::write_error;
 use console_words::position::write_position;
 use session::answer::OpenAnswer;
-use tables::refusal::TYPE_ERROR;
+use tables::refusal::Refusal;
 
 pub fn console_open(
     regions: &[u64],
@@ -33,14 +34,14 @@ pub fn console_open(
         journal,
     );
     match answer {
-        OpenAnswer::Opened(p) => {
+        Ok(p) => {
             write_position(position, p);
             0
         }
-        OpenAnswer::Refused(number) => number,
-        OpenAnswer::Error(e) => {
+        Err(ProgramError::Refused(number)) => number,
+        Err(ProgramError::Type(e)) => {
             write_error(error, e);
-            TYPE_ERROR
+            Refusal::TypeError
         }
     }
 }

@@ -3,19 +3,18 @@ ghost use Rattle.std.proofs.lemmas.List.Edits.{sets};
 ghost use Rattle.console.specs.References.{found_words};
 ghost use Rattle.console_c.specs.Reference.{referred_words, console_reference};
 
-use console::references::{WalkAnswer, memory_references};
-use memory::Next;
+use console::references::memory_references;
 
-fn write_found(found: &mut [u64; 3], next: Next)
+fn write_found(found: &mut [u64; 3], next: Option<MemoryReference>)
     ensures { found.new ≡ sets found.old 0 (found_words next) }
 {
     match next {
-        Next::Reference(r) => {
+        Some(r) => {
             found[0] = 1;
             found[1] = r.name;
             found[2] = r.index;
         }
-        Next::End => {
+        None => {
             found[0] = 0;
             found[1] = 0;
             found[2] = 0;
@@ -35,8 +34,8 @@ pub fn console_reference(
     let old = place[0];
     let answer = memory_references(nodes, first, node_count, old as usize);
     match answer {
-        WalkAnswer::Refused(number) => number,
-        WalkAnswer::Went(step) => {
+        Err(number) => number,
+        Ok(step) => {
             let next = step.found;
             place[0] = step.place as u64;
             write_found(found, next);

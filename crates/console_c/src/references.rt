@@ -1,7 +1,7 @@
 ghost use Rattle.std.specs.Prelude.{◌≡◌};
 ghost use Rattle.console_c.specs.References.{listed_words, console_references};
 
-use console::references::{ReferencesAnswer, references};
+use console::references::references;
 
 pub fn console_references(
     nodes: &[u64],
@@ -16,8 +16,8 @@ pub fn console_references(
     let old = place[0];
     let answer = references(nodes, first, node_count, old as usize, rows);
     match answer {
-        ReferencesAnswer::Refused(number) => number,
-        ReferencesAnswer::Handed(handed) => {
+        Err(number) => number,
+        Ok(handed) => {
             place[0] = handed.place as u64;
             count[0] = handed.count as u64;
             0

@@ -2,9 +2,9 @@ ghost use Rattle.std.specs.Prelude.{◌≡◌};
 ghost use Rattle.tables.specs.Tables.{tables_of};
 ghost use Rattle.console_c.specs.Resolve.{resolved_words, console_resolve};
 
+use extern_call::rows::ResolveError;
 use console::resolve::resolve;
-use extern_call::rows::ResolveAnswer;
-use tables::refusal::ARGUMENT_ERRORS;
+use tables::refusal::Refusal;
 
 pub fn console_resolve(
     regions: &[u64],
@@ -30,12 +30,12 @@ pub fn console_resolve(
         rows,
     );
     match answer {
-        ResolveAnswer::Refused(number) => number,
-        ResolveAnswer::Errors(errors) => {
+        Err(ResolveError::Refused(number)) => number,
+        Err(ResolveError::Errors(errors)) => {
             count[0] = errors as u64;
-            ARGUMENT_ERRORS
+            Refusal::ArgumentErrors
         }
-        ResolveAnswer::Resolved(resolved) => {
+        Ok(resolved) => {
             count[0] = resolved as u64;
             0
         }

@@ -36,8 +36,8 @@ pub fn console_run(
         allowance,
     );
     match answer {
-        RunAnswer::Refused(number, _) => number,
-        RunAnswer::Ran(steps, stop, p) => {
+        Err((number, _)) => number,
+        Ok((steps, stop, p)) => {
             write_position(position, p);
             write_ran(ran, steps, stop);
             0

@@ -6,7 +6,7 @@ ghost use Rattle.session_back.specs.Back.{backed, back_tables};
 use journal::cells::CELL_WIDTH;
 use journal::position::Position;
 use session::answer::StepAnswer;
-use session::prepare::{Prepared, prepare};
+use session::prepare::prepare;
 use session_back::take_back::take_back;
 
 pub fn back(
@@ -33,8 +33,8 @@ pub fn back(
         journal.len(),
     );
     match prepared {
-        Prepared::Refused(number) => StepAnswer::Refused(number, position),
-        Prepared::Cells(n) => take_back(
+        Err(number) => Err((number, position)),
+        Ok(n) => take_back(
             instructions,
             &mut memory[..CELL_WIDTH * n],
             journal,

@@ -6,7 +6,7 @@ ghost use Rattle.session_forward.specs.Forward.{left, forward_tables};
 use journal::cells::CELL_WIDTH;
 use journal::position::Position;
 use session::answer::StepAnswer;
-use session::prepare::{Prepared, prepare};
+use session::prepare::prepare;
 use session_forward::step::step_cells;
 
 pub fn forward(
@@ -34,8 +34,8 @@ pub fn forward(
         journal.len(),
     );
     match prepared {
-        Prepared::Refused(number) => StepAnswer::Refused(number, position),
-        Prepared::Cells(n) => step_cells(
+        Err(number) => Err((number, position)),
+        Ok(n) => step_cells(
             regions,
             externs,
             parameters,

@@ -3,9 +3,10 @@ ghost use Rattle.std.specs.Prelude.{◌≡◌, length};
 ghost use Rattle.tables.specs.Tables.{tables_of};
 ghost use Rattle.session_open.specs.Open.{opening, open_tables};
 
+use type_rules::error::ProgramError;
 use journal::cells::CELL_WIDTH;
 use session::answer::OpenAnswer;
-use session::prepare::{Prepared, prepare};
+use session::prepare::prepare;
 use session_open::open::open_cells;
 
 // Of the journal only its length is looked at.
@@ -32,8 +33,8 @@ pub fn open(
         journal.len(),
     );
     match prepared {
-        Prepared::Refused(number) => OpenAnswer::Refused(number),
-        Prepared::Cells(cells) => open_cells(
+        Err(number) => Err(ProgramError::Refused(number)),
+        Ok(cells) => open_cells(
             regions,
             externs,
             parameters,

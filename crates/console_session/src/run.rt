@@ -6,7 +6,7 @@ ghost use Rattle.session_run.specs.Run.{running, run_tables};
 use journal::cells::CELL_WIDTH;
 use journal::position::Position;
 use session::answer::RunAnswer;
-use session::prepare::{Prepared, prepare};
+use session::prepare::prepare;
 use session_run::run::run_cells;
 
 pub fn run(
@@ -34,8 +34,8 @@ pub fn run(
         journal.len(),
     );
     match prepared {
-        Prepared::Refused(number) => RunAnswer::Refused(number, position),
-        Prepared::Cells(n) => run_cells(
+        Err(number) => Err((number, position)),
+        Ok(n) => run_cells(
             regions,
             externs,
             parameters,

@@ -1,9 +1,9 @@
 -- A session as it is lent from call to call: memory, journal and the last position returned.
+use Rattle.session.specs.Answer.{StepAnswer}
 use Rattle.std.specs.Prelude.{ℕ, List}
 use Rattle.journal.specs.declared.position.Position.{Position}
 use Rattle.session.specs.Answer.{position_of}
 use Rattle.session.specs.Leaves.{Leaves}
-use Rattle.session.specs.declared.answer.StepAnswer.{StepAnswer}
 
 pub record Session : Type 0 where
   pub memory : List ℕ

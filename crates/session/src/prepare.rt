@@ -21,14 +21,8 @@ pub fn tables_look(
 ) -> Result<usize, Refusal>
     ensures { result ≡ tables_look (tables_of regions.now externs.now parameters.now nodes.now arguments.now instructions.now) }
 {
-    let loaded = load_tables(regions, externs, parameters, nodes, arguments, instructions);
-    if let Err(number) = loaded {
-        return Err(number);
-    }
-    let Ok(cells) = cell_count(regions) else {
-        return Err(Refusal::TooManyCells);
-    };
-    Ok(cells)
+    load_tables(regions, externs, parameters, nodes, arguments, instructions)?;
+    cell_count(regions)
 }
 
 // Whether memory and journal, so many words each, are long enough, whole and not too long.
@@ -53,10 +47,7 @@ pub fn prepare(
 ) -> Result<usize, Refusal>
     ensures { result ≡ prepared_of (tables_of regions.now externs.now parameters.now nodes.now arguments.now instructions.now) memory journal }
 {
-    let looked = tables_look(regions, externs, parameters, nodes, arguments, instructions);
-    let Ok(cells) = looked else {
-        return looked;
-    };
+    let cells = tables_look(regions, externs, parameters, nodes, arguments, instructions)?;
     if !buffers_fit(cells, memory, journal) {
         return Err(Refusal::BufferSize);
     }

@@ -1,4 +1,6 @@
 -- What back's looks have seen where they refuse nothing, and back in a memory whose first words are the cells. Assumes nothing.
+use Rattle.session.specs.Answer.{StepAnswer}
+use Rattle.std.proofs.Common.{Ok, Err}
 use Prim.Native.Nat.{ℕ, ◌*◌, ◌/◌, ◌<◌, ◌≤◌}
 use mathlib.Core.Bool.{true}
 use mathlib.Core.List.{List, ◌++◌}
@@ -8,7 +10,7 @@ use lib.ListN.{length, take, drop}
 use lib.Seq.{length-take-le}
 use lib.Dec.{ltb}
 use borrow.Author.Tests.{ltb-true}
-use Rattle.tables.specs.Outcome.{Outcome, ok, refuse, ◌>>=◌}
+use Rattle.tables.specs.Outcome.{Outcome, ◌>>=◌}
 use Rattle.tables.specs.Tables.{Tables}
 use Rattle.tables.specs.Rows.{instruction_rows}
 use Rattle.tables.specs.Cells.{cell_count}
@@ -20,8 +22,6 @@ use Rattle.journal.specs.Position.{retreated}
 use Rattle.journal.specs.Restore.{present, undone}
 use Rattle.session.specs.Prepare.{entries_of, prepared_of}
 use Rattle.session.specs.Position.{position_fits}
-use Rattle.session.specs.declared.answer.StepAnswer.{StepAnswer}
-use Rattle.session.specs.declared.answer.StepAnswer.TheVariants.{Moved, Refused}
 use Rattle.session.proofs.Prepared.{prepared}
 use Rattle.session.proofs.PositionLaws.{fits, placed_then}
 use Rattle.session.proofs.LeavesLaws.{tail_kept, all_kept}
@@ -35,7 +35,7 @@ pub record TakesBack (cells : ℕ) (journal : List ℕ) (p : Position) (changes 
   pub before : changes < p.used
   pub readable : present cells (entries_at journal (first_entry p changes) changes) ≡ true
 
-pub takes_back : (instructions : List ℕ) (cells : ℕ) (journal : List ℕ) (p : Position) {changes : ℕ} → take_back_look instructions cells journal p ≡ ok changes → TakesBack cells journal p changes
+pub takes_back : (instructions : List ℕ) (cells : ℕ) (journal : List ℕ) (p : Position) {changes : ℕ} → take_back_look instructions cells journal p ≡ Ok changes → TakesBack cells journal p changes
 unfolding take_back_look journal_look
 takes_back instructions cells journal p {changes} e =
     let n : ℕ = last_changes journal p in
@@ -54,8 +54,8 @@ takes_back instructions cells journal p {changes} e =
     }
 
 -- what is left of the cells
-pub took_back : (cells journal : List ℕ) (p : Position) {o : Outcome ℕ} {changes row : ℕ} {q : Position} {cells' : List ℕ} → o ≡ ok changes
-    → row ≡ last_row journal p → q ≡ retreated p row changes → cells' ≡ undone journal (first_entry p changes) changes cells → backed (Moved q) cells' ≡ taken_back cells journal p o
+pub took_back : (cells journal : List ℕ) (p : Position) {o : Outcome ℕ} {changes row : ℕ} {q : Position} {cells' : List ℕ} → o ≡ Ok changes
+    → row ≡ last_row journal p → q ≡ retreated p row changes → cells' ≡ undone journal (first_entry p changes) changes cells → backed (Ok q) cells' ≡ taken_back cells journal p o
 unfolding taken_back
 took_back cells journal p e er eq ec = rw (e, eq, er, ec)
 
@@ -68,12 +68,12 @@ module _ (t : Tables) (memory journal : List ℕ) (p : Position) where
   back_look_lem = placed_then t (length memory) (length journal) p (λ n. journal_look t.instructions n journal p)
 
   -- 1, 2, 3, 10 or 4
-  pub back_unprepared : {number : ℕ} → prepared_of t (length memory) (length journal) ≡ refuse number → backed (Refused number p) memory ≡ back_tables t memory journal p
+  pub back_unprepared : {number : ℕ} → prepared_of t (length memory) (length journal) ≡ Err number → backed (Err (number, p)) memory ≡ back_tables t memory journal p
   unfolding back_tables taken_back ◌>>=◌
-  back_unprepared {number} e = rw (back_look_lem, e) (all_kept (cell_width * cell_count t.regions) memory (λ cells. taken_back cells journal p (refuse number)) refl)
+  back_unprepared {number} e = rw (back_look_lem, e) (all_kept (cell_width * cell_count t.regions) memory (λ cells. taken_back cells journal p (Err number)) refl)
 
   -- behind them, with n cells
-  module _ {n : ℕ} (e : prepared_of t (length memory) (length journal) ≡ ok n) where
+  module _ {n : ℕ} (e : prepared_of t (length memory) (length journal) ≡ Ok n) where
     pub back_on : {a : StepAnswer} {cells : List ℕ}
         → backed a cells ≡ taken_back (take (cell_width * n) memory) journal p (take_back_look t.instructions (length (take (cell_width * n) memory) / cell_width) journal p)
         → backed a (cells ++ drop (cell_width * n) memory) ≡ back_tables t memory journal p

@@ -1,7 +1,8 @@
 -- 01, Order: "Back: 1, 2, 3, 10, 4, 19 position, 12, 19 journal (none used, count over what remains, cell absent)."; 02, P4: "an absent row is 19".
-use Rattle.std.specs.Prelude.{ℕ, ◌+◌, ◌*◌, ◌-◌, List, length, ltb}
+use Rattle.session.specs.Answer.{StepAnswer}
+use Rattle.std.specs.Prelude.{ℕ, ◌+◌, ◌*◌, ◌-◌, List, length, ltb, Ok, Err}
 use Rattle.tables.specs.Refusal.{nothing_to_take_back, foreign_position}
-use Rattle.tables.specs.Outcome.{Outcome, ok, refuse, ◌>>=◌, ◌>>◌, need}
+use Rattle.tables.specs.Outcome.{Outcome, ◌>>=◌, ◌>>◌, need}
 use Rattle.tables.specs.Tables.{Tables}
 use Rattle.tables.specs.Rows.{instruction_rows}
 use Rattle.tables.specs.Cells.{cell_count}
@@ -12,8 +13,6 @@ use Rattle.journal.specs.Entries.{changes_at, row_left_at, entries_at}
 use Rattle.journal.specs.Restore.{present, undone}
 use Rattle.session.specs.Position.{placed_look}
 use Rattle.session.specs.Leaves.{Leaves, leaves, with_tail}
-use Rattle.session.specs.declared.answer.StepAnswer.{StepAnswer}
-use Rattle.session.specs.declared.answer.StepAnswer.TheVariants.{Moved, Refused}
 
 -- ---- the looks
 
@@ -37,7 +36,7 @@ journal_look instructions cells journal p = do
   need (ltb (last_changes journal p) p.used) foreign_position
   need (present cells (entries_at journal (first_entry p (last_changes journal p)) (last_changes journal p))) foreign_position
   need (ltb (last_row journal p) (instruction_rows instructions)) foreign_position
-  ok (last_changes journal p)
+  Ok (last_changes journal p)
 
 -- all of them; memory's length in words
 unfoldable pub back_look : Tables → ℕ → List ℕ → Position → Outcome ℕ
@@ -55,8 +54,8 @@ backed answer memory = leaves answer memory tt
 
 -- on the cells: "Back restores in reverse.", and returns to "the row left"
 unfoldable pub taken_back : List ℕ → List ℕ → Position → Outcome ℕ → Back
-taken_back cells journal p (refuse number) = backed (Refused number p) cells
-taken_back cells journal p (ok changes) = backed (Moved (retreated p (last_row journal p) changes)) (undone journal (first_entry p changes) changes cells)
+taken_back cells journal p (Err number) = backed (Err (number, p)) cells
+taken_back cells journal p (Ok changes) = backed (Ok (retreated p (last_row journal p) changes)) (undone journal (first_entry p changes) changes cells)
 
 unfoldable pub back_tables : Tables → List ℕ → List ℕ → Position → Back
 back_tables t memory journal p =

@@ -2,7 +2,7 @@
 ghost use Rattle.std.specs.Prelude.{◌≡◌, ◌/◌, length};
 ghost use Rattle.journal.specs.Cells.{cell_width};
 ghost use Rattle.session_back.specs.Back.{taken_back, backed};
-ghost use Rattle.session_back.specs.TakeBack.{take_back_look, take_back_outcome};
+ghost use Rattle.session_back.specs.TakeBack.{take_back_look};
 
 use journal::cells::CELL_WIDTH;
 use journal::entries::{ENTRY_WIDTH, changes_at, row_left_at};
@@ -10,41 +10,34 @@ use journal::position::Position;
 use journal::restore::{readable, undo};
 use session::answer::StepAnswer;
 use session::position::position_fits;
-use tables::refusal::{FOREIGN_POSITION, NOTHING_TO_TAKE_BACK};
+use tables::refusal::Refusal;
 use tables::rows::INSTRUCTION_WIDTH;
 
-// The change count of the last step, or a refusal by its number.
-#[derive(Drop)]
-pub enum TakeBack {
-    Changes(usize),
-    Refused(u64),
-}
-
-fn look_back(instructions: &[u64], cells: usize, journal: &[u64], p: Position) -> TakeBack
-    ensures { take_back_outcome result ≡ take_back_look instructions.now cells journal.now p }
+fn look_back(instructions: &[u64], cells: usize, journal: &[u64], p: Position) -> Result<usize, Refusal>
+    ensures { result ≡ take_back_look instructions.now cells journal.now p }
 {
     let done = p.done;
     let used = p.used;
     if !position_fits(instructions, journal.len() / ENTRY_WIDTH, p) {
-        return TakeBack::Refused(FOREIGN_POSITION);
+        return Err(Refusal::ForeignPosition);
     }
     if done == 0 {
-        return TakeBack::Refused(NOTHING_TO_TAKE_BACK);
+        return Err(Refusal::NothingToTakeBack);
     }
     if used == 0 {
-        return TakeBack::Refused(FOREIGN_POSITION);
+        return Err(Refusal::ForeignPosition);
     }
     let changes = changes_at(journal, used - 1);
     if used <= changes {
-        return TakeBack::Refused(FOREIGN_POSITION);
+        return Err(Refusal::ForeignPosition);
     }
     if !readable(journal, used - (changes + 1), changes, cells) {
-        return TakeBack::Refused(FOREIGN_POSITION);
+        return Err(Refusal::ForeignPosition);
     }
     if instructions.len() / INSTRUCTION_WIDTH <= row_left_at(journal, used - 1) {
-        return TakeBack::Refused(FOREIGN_POSITION);
+        return Err(Refusal::ForeignPosition);
     }
-    TakeBack::Changes(changes)
+    Ok(changes)
 }
 
 pub fn take_back(
@@ -58,11 +51,11 @@ pub fn take_back(
     let used = p.used;
     let look = look_back(instructions, cells.len() / CELL_WIDTH, journal, p);
     match look {
-        TakeBack::Refused(number) => StepAnswer::Refused(number, p),
-        TakeBack::Changes(changes) => {
+        Err(number) => Err((number, p)),
+        Ok(changes) => {
             undo(cells, journal, used - (changes + 1), changes);
             let row = row_left_at(journal, used - 1);
-            StepAnswer::Moved(p.retreat(row, changes))
+            Ok(p.retreat(row, changes))
         }
     }
 }

@@ -1,4 +1,7 @@
 -- A CALL's writes: each goes to a cell that is there, and the loop makes them one by one. Assumes nothing.
+use Rattle.call_argument.specs.declared.error.CallArgumentError.{CallArgumentError}
+use Rattle.call_argument.specs.declared.resolved.ResolvedCallArgument.{ResolvedCallArgument}
+use Rattle.std.proofs.Common.{Result, Ok, Err}
 use Prim.Native.Nat.{ℕ, suc, ◌+◌, ◌-◌, ◌%◌, ◌<◌, ◌≤◌}
 use mathlib.Core.Bool.{Bool, true, false, ◌&&◌}
 use mathlib.Core.List.{List, [], ◌∷◌}
@@ -7,15 +10,12 @@ use native.Mathlib.Omega.{arith}
 use lib.ListN.{length}
 use lib.Dec.{eqb, ltb, leb}
 use borrow.Author.Tests.{leb-true}
-use Rattle.tables.specs.Outcome.{ok}
 use Rattle.tables.specs.Cells.{cell_count}
 use Rattle.tables.specs.declared.rows.Instruction.{Instruction}
 use Rattle.tables.proofs.Passed.{both}
 use Rattle.tables.proofs.LookupLaws.{region-row}
 use Rattle.extern_call.specs.Call.{CallRanges, resolution_at}
 use Rattle.extern_call.specs.declared.call.ExternCall.{ExternCall}
-use Rattle.extern_call.specs.declared.call.CallResolution.{CallResolution}
-use Rattle.extern_call.specs.declared.call.CallResolution.TheVariants as C
 use Rattle.call_argument.specs.declared.resolved.ResolvedCallArgument.TheVariants.{Vector, MemoryReference, Immediate}
 use Rattle.extern_call.proofs.ResolvedLaws.{resolved_facts}
 use Rattle.journal.specs.declared.cells.Write.{Write}
@@ -30,16 +30,16 @@ use Rattle.session_forward.specs.Step.{Replying}
 
 module _ (regions parameters arguments : List ℕ) (call : ExternCall) where
   -- ---- the cell that a row hits
-  cell_below : Laid regions → (i : ℕ) (y : Reply) (r : CallResolution) → resolution_at regions parameters arguments call i ≡ r
+  cell_below : Laid regions → (i : ℕ) (y : Reply) (r : Result ResolvedCallArgument CallArgumentError) → resolution_at regions parameters arguments call i ≡ r
       → HitWithin regions y.offset r → of_resolved (hits y) false r ≡ true → of_resolved (cell_hit regions y.offset) 0 r < cell_count regions
-  cell_below laid i y (C.Resolved (Vector name v mutable)) e h f =
+  cell_below laid i y (Ok (Vector name v mutable)) e h f =
       let d = (resolved_facts regions parameters arguments call i (Vector name v mutable) e).declares in
       rw d.named (address-within laid d.region y.offset (region-row regions name d.region d.named) (rw d.named at h))
-  cell_below laid i y (C.Resolved (MemoryReference name index kind mutable)) e h f =
+  cell_below laid i y (Ok (MemoryReference name index kind mutable)) e h f =
       let d = (resolved_facts regions parameters arguments call i (MemoryReference name index kind mutable) e).declares in
       rw d.named (address-within laid d.region index (region-row regions name d.region d.named) (rw d.named at h))
-  cell_below laid i y (C.Resolved (Immediate real imaginary kind)) e h f = let z : ◌≡◌ {A = ℕ} 0 1 = cc in absurd (omega arith)
-  cell_below laid i y (C.Failed error) e h f = let z : ◌≡◌ {A = ℕ} 0 1 = cc in absurd (omega arith)
+  cell_below laid i y (Ok (Immediate real imaginary kind)) e h f = let z : ◌≡◌ {A = ℕ} 0 1 = cc in absurd (omega arith)
+  cell_below laid i y (Err error) e h f = let z : ◌≡◌ {A = ℕ} 0 1 = cc in absurd (omega arith)
 
   pub replied_there : {cells : List ℕ} (reply : List ℕ) (k : ℕ) → Layout regions cells → Replied regions parameters arguments call reply k
       → There cells (reply_write regions parameters arguments call reply k).cell
@@ -68,7 +68,7 @@ module _ (regions parameters arguments : List ℕ) (call : ExternCall) where
 
 -- a CALL whose reply was judged
 pub judged_replying : {regions externs parameters arguments : List ℕ} {x : Instruction} {cells reply : List ℕ} {call : ExternCall}
-    → Layout regions cells → CallRanges externs parameters arguments x → call_judged regions externs parameters arguments x reply ≡ ok call
+    → Layout regions cells → CallRanges externs parameters arguments x → call_judged regions externs parameters arguments x reply ≡ Ok call
     → Replying regions parameters arguments call cells reply
 unfolding reply_fits reply_length_fits
 judged_replying {regions} {externs} {parameters} {arguments} {x} {cells} {reply} {call} l ranges e =

@@ -1,5 +1,7 @@
 -- Forward's parts: the row at a position, what its functions ask for, a step's end (13 or the writes), and a step in a memory whose first words are the cells.
 -- Assumes nothing.
+use Rattle.session.specs.Answer.{StepAnswer}
+use Rattle.std.proofs.Common.{Ok, Err}
 use Prim.Native.Nat.{ℕ, ◌+◌, ◌*◌, ◌-◌, ◌<◌, ◌≤◌}
 use mathlib.Core.Bool.{Bool, true, false}
 use mathlib.Core.List.{List, [], ◌∷◌, ◌++◌}
@@ -8,7 +10,7 @@ use native.Mathlib.Omega.{arith}
 use lib.ListN.{length, take, drop}
 use lib.Dec.{ltb, leb}
 use borrow.Author.Tests.{ltb-true, leb-true}
-use Rattle.tables.specs.Outcome.{Outcome, ok, refuse, ◌>>=◌, ◌>>◌, need}
+use Rattle.tables.specs.Outcome.{Outcome, ◌>>=◌, ◌>>◌, need}
 use Rattle.tables.specs.Tables.{Tables}
 use Rattle.tables.specs.Rows.{instruction_rows, instruction_at}
 use Rattle.word_rules.specs.Instruction as I
@@ -29,8 +31,6 @@ use Rattle.machine.proofs.WritesLaws.{Within}
 use Rattle.tables.specs.Cells.{cell_count}
 use Rattle.session.specs.Prepare.{entries_of, prepared_of, Ready}
 use Rattle.session.specs.Position.{position_fits, room_for}
-use Rattle.session.specs.declared.answer.StepAnswer.{StepAnswer}
-use Rattle.session.specs.declared.answer.StepAnswer.TheVariants.{Moved, Refused}
 use Rattle.session.proofs.Prepared.{prepared}
 use Rattle.session.proofs.PositionLaws.{fits, placed_then}
 use Rattle.session.proofs.LeavesLaws.{tail_kept, all_kept}
@@ -46,16 +46,16 @@ module _ (t : Tables) (cells : List ℕ) (entries : ℕ) (p : Position) (reply :
     where
       at : (a b : Bool)
           → (need a 19 >> (need b 11 >> (outcome_of t cells (instruction_at t.instructions p.row) reply >>= room_for entries p)))
-          ≡ ((need a 19 >> (need b 11 >> ok (instruction_at t.instructions p.row))) >>= (λ x. outcome_of t cells x reply >>= room_for entries p))
+          ≡ ((need a 19 >> (need b 11 >> Ok (instruction_at t.instructions p.row))) >>= (λ x. outcome_of t cells x reply >>= room_for entries p))
       at true true = refl
       at true false = refl
       at false b = refl
 
-  pub row-refused : {number : ℕ} → current_row t.instructions entries p ≡ refuse number → row_look t cells entries p reply ≡ refuse number
+  pub row-refused : {number : ℕ} → current_row t.instructions entries p ≡ Err number → row_look t cells entries p reply ≡ Err number
   unfolding ◌>>=◌
   row-refused e = rw (row_look_lem, e)
 
-  pub row_taken : {x : Instruction} → current_row t.instructions entries p ≡ ok x → row_look t cells entries p reply ≡ (outcome_of t cells x reply >>= room_for entries p)
+  pub row_taken : {x : Instruction} → current_row t.instructions entries p ≡ Ok x → row_look t cells entries p reply ≡ (outcome_of t cells x reply >>= room_for entries p)
   unfolding ◌>>=◌
   row_taken e = rw (row_look_lem, e)
 
@@ -66,7 +66,7 @@ pub record Current (instructions : List ℕ) (entries : ℕ) (p : Position) (x :
   pub used : p.used ≤ entries
   pub is : x ≡ instruction_at instructions p.row
 
-pub current : (instructions : List ℕ) (entries : ℕ) (p : Position) {x : Instruction} → current_row instructions entries p ≡ ok x → Current instructions entries p x
+pub current : (instructions : List ℕ) (entries : ℕ) (p : Position) {x : Instruction} → current_row instructions entries p ≡ Ok x → Current instructions entries p x
 unfolding current_row
 current instructions entries p {x} e =
     let (f, e₁) = passed (position_fits instructions entries p) _ _ _ e in
@@ -97,7 +97,7 @@ ready_steppable {t} r =
     }
 
 module _ {regions externs parameters arguments instructions cells : List ℕ} {journal : ℕ} {x : Instruction}
-    (p : Position) (s : Steppable regions externs parameters arguments instructions cells journal) (e : current_row instructions (entries_of journal) p ≡ ok x) where
+    (p : Position) (s : Steppable regions externs parameters arguments instructions cells journal) (e : current_row instructions (entries_of journal) p ≡ Ok x) where
   here : Current instructions (entries_of journal) p x
   here = current instructions (entries_of journal) p e
 
@@ -123,13 +123,13 @@ pub room-words : (journal n : ℕ) (p : Position) → leb (n + 1) (entries_of jo
 room-words journal n p e = omega (arith, leb-true (n + 1) (entries_of journal - p.used) e)
 
 module _ (cells journal : List ℕ) (p : Position) (next : ℕ) (ws : List Write) (n : ℕ) (e : length ws ≡ n) where
-  pub full : leb (n + 1) (entries_of (length journal) - p.used) ≡ false → left (Refused 13 p) cells journal ≡ row_leaves cells journal p next (ok ws)
+  pub full : leb (n + 1) (entries_of (length journal) - p.used) ≡ false → left (Err (13, p)) cells journal ≡ row_leaves cells journal p next (Ok ws)
   unfolding row_leaves room_for stepped ◌>>=◌ ◌>>◌ need
   full h = rw (e, h)
 
   pub roomy : {q : Position} {cells' journal' : List ℕ} → leb (n + 1) (entries_of (length journal) - p.used) ≡ true
       → q ≡ advanced p next n → cells' ≡ applied cells ws → journal' ≡ journaled journal p.used p.row cells ws
-      → left (Moved q) cells' journal' ≡ row_leaves cells journal p next (ok ws)
+      → left (Ok q) cells' journal' ≡ row_leaves cells journal p next (Ok ws)
   unfolding row_leaves room_for stepped ◌>>=◌ ◌>>◌ need
   roomy h eq ec ej = rw (rw (← e) at h, eq, ← e, ec, ej)
 
@@ -147,13 +147,13 @@ module _ (t : Tables) (memory journal : List ℕ) (p : Position) (reply : List �
   forward_look_lem = placed_then t (length memory) (length journal) p (λ n. step_look t (take (cell_width * n) memory) (entries_of (length journal)) p reply)
 
   -- 1, 2, 3, 10 or 4
-  pub forward_unprepared : {number : ℕ} → prepared_of t (length memory) (length journal) ≡ refuse number
-      → left (Refused number p) memory journal ≡ forward_tables t memory journal p reply
+  pub forward_unprepared : {number : ℕ} → prepared_of t (length memory) (length journal) ≡ Err number
+      → left (Err (number, p)) memory journal ≡ forward_tables t memory journal p reply
   unfolding forward_tables stepped ◌>>=◌
-  forward_unprepared {number} e = rw (forward_look_lem, e) (all_kept (cell_width * cell_count t.regions) memory (λ cells. stepped cells journal p (leads cells) (refuse number)) refl)
+  forward_unprepared {number} e = rw (forward_look_lem, e) (all_kept (cell_width * cell_count t.regions) memory (λ cells. stepped cells journal p (leads cells) (Err number)) refl)
 
   -- behind them, with n cells
-  pub forward_on : {n : ℕ} → prepared_of t (length memory) (length journal) ≡ ok n → {a : StepAnswer} {cells journal' : List ℕ}
+  pub forward_on : {n : ℕ} → prepared_of t (length memory) (length journal) ≡ Ok n → {a : StepAnswer} {cells journal' : List ℕ}
       → left a cells journal' ≡ stepped (take (cell_width * n) memory) journal p (leads (take (cell_width * n) memory)) (row_look t (take (cell_width * n) memory) (entries_of (length journal)) p reply)
       → left a (cells ++ drop (cell_width * n) memory) journal' ≡ forward_tables t memory journal p reply
   unfolding forward_tables ◌>>=◌

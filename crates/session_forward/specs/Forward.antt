@@ -1,7 +1,8 @@
 -- 01, Order: "Forward: 1, 2, 3, 10, 4, 19, 11, 9; a call: 6, 7, 8 (number only), 14 over scalar references, 17, 13; else 17, 18 names, .., 13."; 02, P4: 20 after 9.
-use Rattle.std.specs.Prelude.{ℕ, ◌*◌, List, length, take, ltb}
+use Rattle.session.specs.Answer.{StepAnswer}
+use Rattle.std.specs.Prelude.{ℕ, ◌*◌, List, length, take, ltb, Ok, Err}
 use Rattle.tables.specs.Refusal.{at_end}
-use Rattle.tables.specs.Outcome.{Outcome, ok, refuse, ◌>>=◌, ◌>>◌, need}
+use Rattle.tables.specs.Outcome.{Outcome, ◌>>=◌, ◌>>◌, need}
 use Rattle.tables.specs.Tables.{Tables}
 use Rattle.tables.specs.Rows.{instruction_rows}
 use Rattle.tables.specs.Cells.{cell_count}
@@ -15,8 +16,6 @@ use Rattle.control_flow.specs.Next.{next_row}
 use Rattle.session.specs.Prepare.{entries_of}
 use Rattle.session.specs.Position.{placed_look, room_for}
 use Rattle.session.specs.Leaves.{Leaves, leaves, with_tail}
-use Rattle.session.specs.declared.answer.StepAnswer.{StepAnswer}
-use Rattle.session.specs.declared.answer.StepAnswer.TheVariants.{Moved, Refused}
 
 -- ---- the looks
 
@@ -44,8 +43,8 @@ left = leaves
 -- on the cells: "A refusal returns its number .. and the position as given", and writes nothing
 -- A step with these writes leads to row `next` (control_flow/specs/Next.antt).
 unfoldable pub stepped : List ℕ → List ℕ → Position → ℕ → Outcome (List Write) → Left
-stepped cells journal p next (refuse number) = left (Refused number p) cells journal
-stepped cells journal p next (ok ws) = left (Moved (advanced p next (length ws))) (applied cells ws) (journaled journal p.used p.row cells ws)
+stepped cells journal p next (Err number) = left (Err (number, p)) cells journal
+stepped cells journal p next (Ok ws) = left (Ok (advanced p next (length ws))) (applied cells ws) (journaled journal p.used p.row cells ws)
 
 unfoldable pub forward_tables : Tables → List ℕ → List ℕ → Position → List ℕ → Left
 forward_tables t memory journal p reply =

@@ -1,7 +1,7 @@
 -- How forward takes one row in the code, behind 1, 2, 3, 10 and 4: the row at the position, then what the row's outcome leaves.
-use Rattle.std.specs.Prelude.{ℕ, ◌+◌, ◌*◌, ◌<◌, ◌≤◌, true, List, ◌≡◌, length, ltb}
+use Rattle.std.specs.Prelude.{ℕ, ◌+◌, ◌*◌, ◌<◌, ◌≤◌, true, List, ◌≡◌, length, ltb, Ok}
 use Rattle.tables.specs.Refusal.{foreign_position, at_end}
-use Rattle.tables.specs.Outcome.{Outcome, ok, refuse, ◌>>=◌, ◌>>◌, need}
+use Rattle.tables.specs.Outcome.{Outcome, ◌>>=◌, ◌>>◌, need}
 use Rattle.tables.specs.Tables.{Tables}
 use Rattle.tables.specs.Family as family
 use Rattle.tables.specs.Rows.{instruction_limit, instruction_rows, instruction_at}
@@ -19,8 +19,6 @@ use Rattle.machine.specs.Reach.{Opened}
 use Rattle.session.specs.Prepare.{entries_of}
 use Rattle.session.specs.Position.{position_fits, room_for}
 use Rattle.session_forward.specs.Forward.{step_look, Left, stepped}
-use Rattle.session_forward.specs.declared.step.RowHere.{RowHere}
-use Rattle.session_forward.specs.declared.step.RowHere.TheVariants.{At, Refused}
 
 -- from 19 on
 unfoldable pub row_look : Tables → List ℕ → ℕ → Position → List ℕ → Outcome (List Write)
@@ -33,12 +31,7 @@ unfoldable pub current_row : List ℕ → ℕ → Position → Outcome Instructi
 current_row instructions entries p = do
   need (position_fits instructions entries p) foreign_position
   need (ltb p.row (instruction_rows instructions)) at_end
-  ok (instruction_at instructions p.row)
-
--- the answer `RowHere` of the code
-abbrev pub here_outcome : RowHere → Outcome Instruction
-here_outcome (At x) = ok x
-here_outcome (Refused number) = refuse number
+  Ok (instruction_at instructions p.row)
 
 -- "13" after what the row does, then what is left
 unfoldable pub row_leaves : List ℕ → List ℕ → Position → ℕ → Outcome (List Write) → Left

@@ -12,12 +12,12 @@ ghost use Rattle.session_forward.specs.Step.{row_leaves, Placed, Replying};
 
 use call_reply::call::{judge_call, reply_write};
 use call_reply::reply::REPLY_WIDTH;
-use extern_call::call::{CallAnswer, ExternCall};
+use extern_call::call::ExternCall;
 use journal::entries::{ENTRY_WIDTH, close, write_cell};
 use journal::position::Position;
 use session::answer::StepAnswer;
 use session::position::has_room;
-use tables::refusal::JOURNAL_FULL;
+use tables::refusal::Refusal;
 use tables::rows::Instruction;
 
 // The write of the reply's row k, with its entry.
@@ -94,12 +94,12 @@ fn reply_step(
     let row = p.row;
     let rows = reply.len() / REPLY_WIDTH;
     if !has_room(journal.len() / ENTRY_WIDTH, p, rows) {
-        return StepAnswer::Refused(JOURNAL_FULL, p);
+        return Err((Refusal::JournalFull, p));
     }
     write_reply(
         regions, parameters, arguments, call, cells, journal, used, row, reply,
     );
-    StepAnswer::Moved(p.advance(next, rows))
+    Ok(p.advance(next, rows))
 }
 
 // A step that leads to row `next`.
@@ -120,8 +120,8 @@ pub fn call_step(
 {
     let judged = judge_call(regions, externs, parameters, arguments, x, reply);
     match judged {
-        CallAnswer::Refused(number) => StepAnswer::Refused(number, p),
-        CallAnswer::Resolves(call) => reply_step(
+        Err(number) => Err((number, p)),
+        Ok(call) => reply_step(
             regions, parameters, arguments, call, cells, journal, p, next, reply,
         ),
     }

@@ -13,7 +13,7 @@ use journal::position::Position;
 use machine::outcome::{RowOutcome, plain_outcome};
 use session::answer::StepAnswer;
 use session::position::has_room;
-use tables::refusal::JOURNAL_FULL;
+use tables::refusal::Refusal;
 use tables::rows::Instruction;
 
 // A step that writes nothing; the cells stay, whatever they are.
@@ -24,10 +24,10 @@ fn step_none(journal: &mut [u64], p: Position, next: usize) -> StepAnswer
     let used = p.used;
     let row = p.row;
     if !has_room(journal.len() / ENTRY_WIDTH, p, 0) {
-        return StepAnswer::Refused(JOURNAL_FULL, p);
+        return Err((Refusal::JournalFull, p));
     }
     close(journal, used, 0, row);
-    StepAnswer::Moved(p.advance(next, 0))
+    Ok(p.advance(next, 0))
 }
 
 fn step_one(
@@ -43,10 +43,10 @@ fn step_one(
     let used = p.used;
     let row = p.row;
     if !has_room(journal.len() / ENTRY_WIDTH, p, 1) {
-        return StepAnswer::Refused(JOURNAL_FULL, p);
+        return Err((Refusal::JournalFull, p));
     }
     write_one(cells, journal, used, row, w);
-    StepAnswer::Moved(p.advance(next, 1))
+    Ok(p.advance(next, 1))
 }
 
 // The writes are made in this order.
@@ -64,10 +64,10 @@ fn step_two(
     let used = p.used;
     let row = p.row;
     if !has_room(journal.len() / ENTRY_WIDTH, p, 2) {
-        return StepAnswer::Refused(JOURNAL_FULL, p);
+        return Err((Refusal::JournalFull, p));
     }
     write_two(cells, journal, used, row, v, w);
-    StepAnswer::Moved(p.advance(next, 2))
+    Ok(p.advance(next, 2))
 }
 
 // A step that leads to row `next`.
@@ -85,7 +85,7 @@ pub fn plain_step(
 {
     let outcome = plain_outcome(regions, cells, x, reply);
     match outcome {
-        RowOutcome::Refused(number) => StepAnswer::Refused(number, p),
+        RowOutcome::Refused(number) => Err((number, p)),
         RowOutcome::NoWrites => step_none(journal, p, next),
         RowOutcome::One(w) => step_one(cells, journal, p, next, w),
         RowOutcome::Two(v, w) => step_two(cells, journal, p, next, v, w),

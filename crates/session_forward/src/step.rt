@@ -6,7 +6,7 @@ ghost use Rattle.labels.specs.Targets.{LabelsKnown};
 ghost use Rattle.control_flow.specs.Next.{next_row};
 ghost use Rattle.machine.specs.Outcome.{outcome_of};
 ghost use Rattle.session_forward.specs.Forward.{left, stepped};
-ghost use Rattle.session_forward.specs.Step.{row_look, current_row, here_outcome, row_leaves, Steppable, RowReady};
+ghost use Rattle.session_forward.specs.Step.{row_look, current_row, row_leaves, Steppable, RowReady};
 
 use crate::call_step::call_step;
 use crate::plain_step::plain_step;
@@ -18,27 +18,20 @@ use machine::outcome::is_other;
 use session::answer::StepAnswer;
 use session::position::position_fits;
 use tables::family::CALL;
-use tables::refusal::{AT_END, FOREIGN_POSITION, OTHER_INSTRUCTION, UNFIT_LABELS};
+use tables::refusal::Refusal;
 use tables::rows::{INSTRUCTION_LIMIT, INSTRUCTION_WIDTH, Instruction, instruction_at};
 
-// The row at a position, or a refusal by its number.
-#[derive(Drop)]
-pub enum RowHere {
-    At(Instruction),
-    Refused(u64),
-}
-
-fn row_here(instructions: &[u64], entries: usize, p: Position) -> RowHere
-    ensures { here_outcome result ≡ current_row instructions.now entries p }
+fn row_here(instructions: &[u64], entries: usize, p: Position) -> Result<Instruction, Refusal>
+    ensures { result ≡ current_row instructions.now entries p }
 {
     let row = p.row;
     if !position_fits(instructions, entries, p) {
-        return RowHere::Refused(FOREIGN_POSITION);
+        return Err(Refusal::ForeignPosition);
     }
     if instructions.len() / INSTRUCTION_WIDTH <= row {
-        return RowHere::Refused(AT_END);
+        return Err(Refusal::AtEnd);
     }
-    RowHere::At(instruction_at(instructions, row))
+    Ok(instruction_at(instructions, row))
 }
 
 // Any row: 9, 20, then by CALL or no CALL. The labels were looked at before. The nodes play no part in it.
@@ -60,10 +53,10 @@ fn any_step(
     ensures { (nodes : List ℕ) → left result cells.new journal.new ≡ row_leaves cells.old journal.old p (next_row regions.now instructions.now cells.old p.row) (outcome_of (tables_of regions.now externs.now parameters.now nodes arguments.now instructions.now) cells.old x reply.now) }
 {
     if is_other(x) {
-        return StepAnswer::Refused(OTHER_INSTRUCTION, p);
+        return Err((Refusal::OtherInstruction, p));
     }
     if !fit {
-        return StepAnswer::Refused(UNFIT_LABELS, p);
+        return Err((Refusal::UnfitLabels, p));
     }
     let next = next_row(regions, instructions, targets, cells, p.row);
     if x.family == CALL {
@@ -93,8 +86,8 @@ pub fn step_row(
 {
     let here = row_here(instructions, journal.len() / ENTRY_WIDTH, p);
     match here {
-        RowHere::Refused(number) => StepAnswer::Refused(number, p),
-        RowHere::At(x) => any_step(
+        Err(number) => Err((number, p)),
+        Ok(x) => any_step(
             regions,
             externs,
             parameters,

@@ -1,26 +1,24 @@
 -- 02, P2: "Give the sum ..; a program that open would turn down gets open's number, buffers apart."
-use Rattle.std.specs.Prelude.{ℕ, List}
-use Rattle.tables.specs.Refusal.{type_error}
+use Rattle.type_rules.specs.declared.error.ProgramError.{ProgramError}
+use Rattle.type_rules.specs.declared.error.ProgramError.TheVariants as P
+use Rattle.std.specs.Prelude.{ℕ, List, Result, Ok, Err}
+use Rattle.tables.specs.Refusal.{refusal_number, type_error}
 use Rattle.tables.specs.Tables.{Tables}
 use Rattle.session_open.specs.Open.{tables_verdict}
-use Rattle.session_open.specs.declared.verdict.OpenLook.{OpenLook}
-use Rattle.session_open.specs.declared.verdict.OpenLook.TheVariants as L
 use Rattle.session_length.specs.Entries.{journal_length}
-use Rattle.session_length.specs.declared.length.LengthAnswer.{LengthAnswer}
-use Rattle.session_length.specs.declared.length.LengthAnswer.TheVariants.{Entries, Refused, Error}
 
 -- by what open finds
-abbrev pub length_answer : List ℕ → OpenLook → LengthAnswer
-length_answer instructions L.Accepted = Entries (journal_length instructions)
-length_answer instructions (L.Refused number) = Refused number
-length_answer instructions (L.Error e) = Error e
+abbrev pub length_answer : List ℕ → Result (Unit {0}) ProgramError → Result ℕ ProgramError
+length_answer instructions (Ok _) = Ok (journal_length instructions)
+length_answer instructions (Err (P.Refused number)) = Err (P.Refused number)
+length_answer instructions (Err (P.Type e)) = Err (P.Type e)
 
 -- open's looks without the buffers: 1, 2, 3, 10, 5, 9, 20, 21, 22, then 6, 7, 8 by row
-unfoldable pub length_tables : Tables → LengthAnswer
+unfoldable pub length_tables : Tables → Result ℕ ProgramError
 length_tables t = length_answer t.instructions (tables_verdict t)
 
 -- the answer's cases: 0, the refusal's number, or "with 5 the type error" (its words are type_check's `error_words`)
-abbrev pub length_number : LengthAnswer → ℕ
-length_number (Entries n) = 0
-length_number (Refused number) = number
-length_number (Error e) = type_error
+abbrev pub length_number : Result ℕ ProgramError → ℕ
+length_number (Ok n) = 0
+length_number (Err (P.Refused r)) = refusal_number r
+length_number (Err (P.Type e)) = refusal_number type_error

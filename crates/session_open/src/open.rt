@@ -3,7 +3,8 @@ ghost use Rattle.std.specs.Prelude.{◌≡◌};
 ghost use Rattle.tables.specs.Tables.{tables_of};
 ghost use Rattle.session_open.specs.Open.{opening, program_verdict, open_cells, Openable};
 
-use crate::verdict::{OpenLook, program_verdict};
+use type_rules::error::ProgramError;
+use crate::verdict::program_verdict;
 use crate::zero::zero_cells;
 use journal::position::Position;
 use session::answer::OpenAnswer;
@@ -22,11 +23,11 @@ pub fn open_cells(
 {
     let verdict = program_verdict(regions, externs, parameters, nodes, arguments, instructions);
     match verdict {
-        OpenLook::Refused(number) => OpenAnswer::Refused(number),
-        OpenLook::Error(error) => OpenAnswer::Error(error),
-        OpenLook::Accepted => {
+        Err(ProgramError::Refused(number)) => Err(ProgramError::Refused(number)),
+        Err(ProgramError::Type(error)) => Err(ProgramError::Type(error)),
+        Ok(()) => {
             zero_cells(regions, cells);
-            OpenAnswer::Opened(Position::first())
+            Ok(Position::first())
         }
     }
 }

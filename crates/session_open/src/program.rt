@@ -1,17 +1,15 @@
 // Open's looks at the program's rows: 9, 20, 21 and 22 of any row, then 6, 7 and 8 row by row.
 ghost use Rattle.std.specs.Prelude.{◌≡◌, ◌<◌};
 ghost use Rattle.tables.specs.Rows.{instruction_rows};
-ghost use Rattle.tables.specs.Look.{look_outcome};
 ghost use Rattle.session_open.specs.Open.{call_tables, CallsInside, no_other, call_look, calls_look, program_look};
 
 use control_flow::condition::conditions_fit;
-use extern_call::call::{CallAnswer, resolves};
+use extern_call::call::resolves;
 use labels::labels::labels_fit;
 use machine::outcome::is_other;
 use operators::convert::conversions_fit;
 use tables::family;
-use tables::look::Look;
-use tables::refusal::{CONDITION_NOT_BIT, OTHER_INSTRUCTION, UNFIT_CONVERSION, UNFIT_LABELS};
+use tables::refusal::Refusal;
 use tables::rows::{INSTRUCTION_WIDTH, instruction_at};
 
 fn no_other(instructions: &[u64]) -> bool
@@ -29,18 +27,18 @@ fn call_look(
     arguments: &[u64],
     instructions: &[u64],
     row: usize,
-) -> Look
+) -> Result<(), Refusal>
     requires { (row < instruction_rows instructions.now) × CallsInside externs.now parameters.now arguments.now instructions.now }
-    ensures { look_outcome result ≡ call_look (call_tables regions.now externs.now parameters.now arguments.now instructions.now) row }
+    ensures { result ≡ call_look (call_tables regions.now externs.now parameters.now arguments.now instructions.now) row }
 {
     let x = instruction_at(instructions, row);
     if x.family != family::CALL {
-        return Look::Accepted;
+        return Ok(());
     }
     let answer = resolves(regions, externs, parameters, arguments, x);
     match answer {
-        CallAnswer::Resolves(_) => Look::Accepted,
-        CallAnswer::Refused(number) => Look::Refused(number),
+        Ok(_) => Ok(()),
+        Err(number) => Err(number),
     }
 }
 
@@ -51,18 +49,18 @@ fn calls_look(
     parameters: &[u64],
     arguments: &[u64],
     instructions: &[u64],
-) -> Look
+) -> Result<(), Refusal>
     requires { CallsInside externs.now parameters.now arguments.now instructions.now }
-    ensures { look_outcome result ≡ calls_look (call_tables regions.now externs.now parameters.now arguments.now instructions.now) }
+    ensures { result ≡ calls_look (call_tables regions.now externs.now parameters.now arguments.now instructions.now) }
 {
     let rows = instructions.len() / INSTRUCTION_WIDTH;
     for row in 0..rows {
         let look = call_look(regions, externs, parameters, arguments, instructions, row);
-        if let Look::Refused(number) = look {
-            return Look::Refused(number);
+        if let Err(number) = look {
+            return Err(number);
         }
     }
-    Look::Accepted
+    Ok(())
 }
 
 pub fn program_look(
@@ -71,21 +69,21 @@ pub fn program_look(
     parameters: &[u64],
     arguments: &[u64],
     instructions: &[u64],
-) -> Look
+) -> Result<(), Refusal>
     requires { CallsInside externs.now parameters.now arguments.now instructions.now }
-    ensures { look_outcome result ≡ program_look (call_tables regions.now externs.now parameters.now arguments.now instructions.now) }
+    ensures { result ≡ program_look (call_tables regions.now externs.now parameters.now arguments.now instructions.now) }
 {
     if !no_other(instructions) {
-        return Look::Refused(OTHER_INSTRUCTION);
+        return Err(Refusal::OtherInstruction);
     }
     if !labels_fit(instructions) {
-        return Look::Refused(UNFIT_LABELS);
+        return Err(Refusal::UnfitLabels);
     }
     if !conditions_fit(regions, instructions) {
-        return Look::Refused(CONDITION_NOT_BIT);
+        return Err(Refusal::ConditionNotBit);
     }
     if !conversions_fit(regions, instructions) {
-        return Look::Refused(UNFIT_CONVERSION);
+        return Err(Refusal::UnfitConversion);
     }
     calls_look(regions, externs, parameters, arguments, instructions)
 }

@@ -1,4 +1,7 @@
 -- Run in a memory whose first words are the cells. Assumes nothing.
+use Rattle.session.specs.Answer.{RunAnswer}
+use Rattle.session.specs.Answer.{StepAnswer}
+use Rattle.std.proofs.Common.{Ok, Err}
 use Prim.Native.Nat.{ℕ, zero, suc, ◌+◌, ◌*◌}
 use mathlib.Core.Bool.{Bool, true, false, cond}
 use mathlib.Core.List.{List, [], ◌++◌}
@@ -7,7 +10,7 @@ use lib.ListN.{length, take, drop, length-append, take-append-drop}
 use lib.Seq.{length-take-le, take_at, drop_at}
 use lib.Dec.{leb}
 use Rattle.tables.specs.Refusal.{foreign_position}
-use Rattle.tables.specs.Outcome.{Outcome, ok, refuse, ◌>>=◌, ◌>>◌, need}
+use Rattle.tables.specs.Outcome.{Outcome, ◌>>=◌, ◌>>◌, need}
 use Rattle.tables.specs.Tables.{Tables}
 use Rattle.tables.specs.Rows.{instruction_rows, instruction_at}
 use Rattle.journal.specs.declared.cells.Write.{Write}
@@ -20,11 +23,7 @@ use Rattle.control_flow.specs.Next.{next_row}
 use Rattle.session.specs.Prepare.{entries_of, prepared_of}
 use Rattle.session.specs.Position.{position_fits, placed_look}
 use Rattle.session.specs.Leaves.{extended}
-use Rattle.session.specs.declared.answer.StepAnswer.{StepAnswer}
-use Rattle.session.specs.declared.answer.StepAnswer.TheVariants as S
 use Rattle.session.specs.declared.answer.Stop.TheVariants.{Allowance, End, Call}
-use Rattle.session.specs.declared.answer.RunAnswer.{RunAnswer}
-use Rattle.session.specs.declared.answer.RunAnswer.TheVariants.{Refused}
 use Rattle.session.proofs.Prepared.{prepared}
 use Rattle.session_forward.specs.Forward.{Left, stepped}
 use Rattle.session_forward.specs.Step.{row_look}
@@ -40,8 +39,8 @@ pub record Lengths (cells entries : List ℕ) (l : Left) : Type 0 where
 
 stepped_lengths : (cells journal : List ℕ) (p : Position) (next : ℕ) (o : Outcome (List Write)) → Lengths cells journal (stepped cells journal p next o)
 unfolding stepped
-stepped_lengths cells journal p next (refuse number) = record { memory = refl; journal = refl }
-stepped_lengths cells journal p next (ok ws) = record { memory = length-applied cells ws; journal = length-journaled journal p.used p.row cells ws }
+stepped_lengths cells journal p next (Err number) = record { memory = refl; journal = refl }
+stepped_lengths cells journal p next (Ok ws) = record { memory = length-applied cells ws; journal = length-journaled journal p.used p.row cells ws }
 
 -- ---- with n cells
 
@@ -54,7 +53,7 @@ module _ (t : Tables) (n : ℕ) where
 
   -- the looks behind which run stands; they look at lengths alone
   abbrev Prepares : List ℕ → List ℕ → Type 0
-  Prepares memory journal = prepared_of t (length memory) (length journal) ≡ ok n
+  Prepares memory journal = prepared_of t (length memory) (length journal) ≡ Ok n
 
   step_extends : (memory journal : List ℕ) (p : Position) → Prepares memory journal
       → forward_step t memory journal p ≡ extended (cell_step t (take w memory) journal p) (drop w memory)
@@ -91,11 +90,11 @@ module _ (t : Tables) (n : ℕ) where
 
     goes_on : (a : StepAnswer) → onward (run_by (forward_step t) instructions left (taken + 1)) taken (l.memory ++ past) l.journal a
         ≡ extended (onward (run_by (cell_step t) instructions left (taken + 1)) taken l.memory l.journal a) past
-    goes_on (S.Moved q) =
+    goes_on (Ok q) =
         more (l.memory ++ past) l.journal q again
         ∙ ap₂ (λ (cells rest : List ℕ). extended (run_by (cell_step t) instructions left (taken + 1) cells l.journal q) rest)
         (take_at l.memory past w wide) (drop_at l.memory past w wide)
-    goes_on (S.Refused number q) = refl
+    goes_on (Err (number, q)) = refl
 
     turn_extends : turn (forward_step t) instructions (run_by (forward_step t) instructions left (taken + 1)) taken memory journal p
         ≡ extended (turn (cell_step t) instructions (run_by (cell_step t) instructions left (taken + 1)) taken (take w memory) journal p) past
@@ -125,12 +124,12 @@ module _ (t : Tables) (n : ℕ) where
 
 module _ (t : Tables) (memory journal : List ℕ) (p : Position) (allowance : ℕ) where
   -- 1, 2, 3, 10 or 4
-  pub run_unprepared : {number : ℕ} → prepared_of t (length memory) (length journal) ≡ refuse number → running (Refused number p) memory journal ≡ run_tables t memory journal p allowance
+  pub run_unprepared : {number : ℕ} → prepared_of t (length memory) (length journal) ≡ Err number → running (Err (number, p)) memory journal ≡ run_tables t memory journal p allowance
   unfolding run_tables placed_look ◌>>=◌
   run_unprepared e = rw e
 
   -- behind them, with n cells
-  pub run_on : {n : ℕ} → prepared_of t (length memory) (length journal) ≡ ok n → {a : RunAnswer} {cells journal' : List ℕ}
+  pub run_on : {n : ℕ} → prepared_of t (length memory) (length journal) ≡ Ok n → {a : RunAnswer} {cells journal' : List ℕ}
       → running a cells journal' ≡ run_cells t (take (cell_width * n) memory) journal p allowance
       → running a (cells ++ drop (cell_width * n) memory) journal' ≡ run_tables t memory journal p allowance
   unfolding run_tables run_cells placed_look ◌>>=◌ ◌>>◌ need
@@ -138,6 +137,6 @@ module _ (t : Tables) (memory journal : List ℕ) (p : Position) (allowance : �
     where
       at : (b : Bool)
           → extended (unless_refused (need b foreign_position) p (take (cell_width * n) memory) journal (run_by (cell_step t) t.instructions allowance 0 (take (cell_width * n) memory) journal p)) (drop (cell_width * n) memory)
-          ≡ unless_refused (need b foreign_position >> ok n) p memory journal (run_by (forward_step t) t.instructions allowance 0 memory journal p)
+          ≡ unless_refused (need b foreign_position >> Ok n) p memory journal (run_by (forward_step t) t.instructions allowance 0 memory journal p)
       at true = sym (run_extends t n allowance 0 memory journal p e)
-      at false = ap (λ (m : List ℕ). running (Refused foreign_position p) m journal) (take-append-drop (cell_width * n) memory)
+      at false = ap (λ (m : List ℕ). running (Err (foreign_position, p)) m journal) (take-append-drop (cell_width * n) memory)

@@ -1,4 +1,6 @@
 -- The claim on run: every run is that many forwards. No premises, no axioms.
+use Rattle.session.specs.Answer.{StepAnswer}
+use Rattle.std.proofs.Common.{Ok, Err}
 use Prim.Native.Nat.{ℕ, zero, suc, ◌+◌, ◌*◌, ◌<◌, ◌≤◌}
 use mathlib.Core.Bool.{Bool, true, false, cond}
 use mathlib.Core.List.{List, []}
@@ -7,7 +9,7 @@ use native.Mathlib.Omega.{arith}
 use lib.ListN.{length, take, drop, take-append-drop}
 use lib.Dec.{leb, ltb}
 use borrow.Author.Tests.{leb-true, leb-false, ltb-true}
-use Rattle.tables.specs.Outcome.{Outcome, ok, refuse, ◌>>=◌}
+use Rattle.tables.specs.Outcome.{Outcome, ◌>>=◌}
 use Rattle.tables.specs.Tables.{Tables}
 use Rattle.tables.specs.Rows.{instruction_rows, instruction_at}
 use Rattle.tables.specs.Cells.{cell_count}
@@ -22,11 +24,8 @@ use Rattle.session.specs.Answer.{position_of}
 use Rattle.session.specs.Leaves.{extended, with_tail}
 use Rattle.session.specs.Position.{placed_look}
 use Rattle.session.specs.Session.{Session, after}
-use Rattle.session.specs.declared.answer.StepAnswer.{StepAnswer}
-use Rattle.session.specs.declared.answer.StepAnswer.TheVariants as S
 use Rattle.session.specs.declared.answer.Stop.{Stop}
 use Rattle.session.specs.declared.answer.Stop.TheVariants.{Allowance, End, Call, Refusal}
-use Rattle.session.specs.declared.answer.RunAnswer.TheVariants.{Ran, Refused}
 use Rattle.session_forward.specs.Forward.{Left, left, step_look, forward_look, stepped, forward_tables}
 use Rattle.session_run.specs.Run.{Running, stopped, onward, turn, run_by, forward_step, unless_refused, run_tables}
 use Rattle.session_run.specs.Claim.{forward_from, forwards, Moves, BeforeCall, AtRefusal, Says, RunIs, ended, lent, Runs, RunClaim}
@@ -39,13 +38,13 @@ module _ (t : Tables) where
 
   -- it moves by one step, or leaves all as it was
   data Forwarded (s : Session) (l : Left) : Type 0 where
-    moved : (p : Position) → l.answer ≡ S.Moved p → p.done ≡ s.position.done + 1 → Forwarded s l
-    refused : (number : ℕ) → l ≡ left (S.Refused number s.position) s.memory s.journal → Forwarded s l
+    moved : (p : Position) → l.answer ≡ Ok p → p.done ≡ s.position.done + 1 → Forwarded s l
+    refused : (number : ℕ) → l ≡ left (Err (number, s.position)) s.memory s.journal → Forwarded s l
 
   stepped_by : (s : Session) (w next : ℕ) (o : Outcome (List Write)) → Forwarded s (extended (stepped (take w s.memory) s.journal s.position next o) (drop w s.memory))
   unfolding stepped
-  stepped_by s w next (ok ws) = moved _ refl refl
-  stepped_by s w next (refuse number) = refused number (ap (λ (m : List ℕ). left (S.Refused number s.position) m s.journal) (take-append-drop w s.memory))
+  stepped_by s w next (Ok ws) = moved _ refl refl
+  stepped_by s w next (Err number) = refused number (ap (λ (m : List ℕ). left (Err (number, s.position)) m s.journal) (take-append-drop w s.memory))
 
   forwarded : (s : Session) → Forwarded s (forward_from t s)
   unfolding forward_tables with_tail
@@ -57,11 +56,11 @@ module _ (t : Tables) where
   moves-inside s m = at (next_row t.regions t.instructions (take (cell_width * cell_count t.regions) s.memory) s.position.row) (forward_look t s.memory (length s.journal) s.position []) refl m.moved
     where
       at : (next : ℕ) (o : Outcome (List Write)) → forward_look t s.memory (length s.journal) s.position [] ≡ o
-          → (stepped (take (cell_width * cell_count t.regions) s.memory) s.journal s.position next o).answer ≡ S.Moved m.position → s.position.row < rows
-      at next (ok ws) e q =
+          → (stepped (take (cell_width * cell_count t.regions) s.memory) s.journal s.position next o).answer ≡ Ok m.position → s.position.row < rows
+      at next (Ok ws) e q =
           let b = bound (placed_look t (length s.memory) (length s.journal) s.position) _ ws e in
           ltb-true s.position.row rows (passed (ltb s.position.row rows) _ _ _ b.rest).0
-      at next (refuse number) e q = let z : ◌≡◌ {A = ℕ} 0 1 = cc in absurd (omega arith)
+      at next (Err number) e q = let z : ◌≡◌ {A = ℕ} 0 1 = cc in absurd (omega arith)
 
   -- ---- a run from a session, after so many steps taken before
 
@@ -69,7 +68,7 @@ module _ (t : Tables) where
     steps : ℕ
     stop : Stop
     position : Position
-    answer_is : r.answer ≡ Ran (taken + steps) stop position
+    answer_is : r.answer ≡ Ok (taken + steps, stop, position)
     is : RunIs t s allowance steps stop (ended r)
 
   -- one that stops at once
@@ -80,7 +79,7 @@ module _ (t : Tables) where
     steps = 0;
     stop = stop;
     position = s.position;
-    answer_is = ap (λ (n : ℕ). Ran n stop s.position) (omega arith);
+    answer_is = ap (λ (n : ℕ). Ok (n, stop, s.position)) (omega arith);
     is = record {
       at_most = omega arith;
       leaves_is = refl;
@@ -104,7 +103,7 @@ module _ (t : Tables) where
   moves_more s steps m more zero h = m
   moves_more s steps m more (suc k) h = more k (omega arith)
 
-  one_more : (s : Session) (left taken : ℕ) (r : Running) (p : Position) → (forward_from t s).answer ≡ S.Moved p → p.done ≡ s.position.done + 1
+  one_more : (s : Session) (left taken : ℕ) (r : Running) (p : Position) → (forward_from t s).answer ≡ Ok p → p.done ≡ s.position.done + 1
       → Goes (after (forward_from t s)) left (taken + 1) r → Goes s (suc left) taken r
   unfolding forwards
   one_more s left taken r p e d g =
@@ -114,7 +113,7 @@ module _ (t : Tables) where
         steps = suc g.steps;
         stop = g.stop;
         position = g.position;
-        answer_is = g.answer_is ∙ ap (λ (n : ℕ). Ran n g.stop g.position) (omega arith);
+        answer_is = g.answer_is ∙ ap (λ (n : ℕ). Ok (n, g.stop, g.position)) (omega arith);
         is = record {
           at_most = omega (arith, i.at_most);
           leaves_is = i.leaves_is;
@@ -144,8 +143,8 @@ module _ (t : Tables) where
         let z : ◌≡◌ {A = ℕ} 0 1 = ap is_moved (sym (ap (λ (k : Left). k.answer) e) ∙ m.moved) in absurd (omega arith)))
       where
         is_moved : StepAnswer → ℕ
-        is_moved (S.Moved p) = 1
-        is_moved (S.Refused n p) = 0
+        is_moved (Ok p) = 1
+        is_moved (Err (n, p)) = 0
 
     turns : Goes s (suc left) taken (turn (forward_step t) t.instructions rest taken s.memory s.journal s.position)
     unfolding turn
@@ -172,38 +171,38 @@ module _ (t : Tables) where
     abbrev run : ℕ → Running
     run allowance = run_by (forward_step t) t.instructions allowance 0 memory journal p
 
-    said : (allowance : ℕ) (r : Running) (steps : ℕ) (stop : Stop) (p' : Position) → Goes (lent t memory journal p) allowance 0 r → r.answer ≡ Ran steps stop p'
+    said : (allowance : ℕ) (r : Running) (steps : ℕ) (stop : Stop) (p' : Position) → Goes (lent t memory journal p) allowance 0 r → r.answer ≡ Ok (steps, stop, p')
         → RunIs t (lent t memory journal p) allowance steps stop (ended r)
     said allowance r steps stop p' g e =
-        let same : Ran (0 + g.steps) g.stop g.position ≡ Ran steps stop p' = sym g.answer_is ∙ e in
+        let same : Ok (0 + g.steps, g.stop, g.position) ≡ Ok (steps, stop, p') = sym g.answer_is ∙ e in
         let n : g.steps ≡ steps = (let z : 0 + g.steps ≡ steps = cc in omega arith) in
         let q : g.stop ≡ stop = cc in
         subst (λ (k : Stop). RunIs t (lent t memory journal p) allowance steps k (ended r)) q
         (subst (λ (k : ℕ). RunIs t (lent t memory journal p) allowance k g.stop (ended r)) n g.is)
 
-    ran_is : (allowance steps : ℕ) (stop : Stop) (p' : Position) (o : Outcome ℕ) → (unless_refused o p memory journal (run allowance)).answer ≡ Ran steps stop p'
+    ran_is : (allowance steps : ℕ) (stop : Stop) (p' : Position) (o : Outcome ℕ) → (unless_refused o p memory journal (run allowance)).answer ≡ Ok (steps, stop, p')
         → RunIs t (lent t memory journal p) allowance steps stop (ended (unless_refused o p memory journal (run allowance)))
-    ran_is allowance steps stop p' (ok n) e = said allowance (run allowance) steps stop p' (goes allowance 0 (lent t memory journal p)) e
-    ran_is allowance steps stop p' (refuse number) e = let z : ◌≡◌ {A = ℕ} 0 1 = cc in absurd (omega arith)
+    ran_is allowance steps stop p' (Ok n) e = said allowance (run allowance) steps stop p' (goes allowance 0 (lent t memory journal p)) e
+    ran_is allowance steps stop p' (Err number) e = let z : ◌≡◌ {A = ℕ} 0 1 = cc in absurd (omega arith)
 
     -- forward makes the same looks first
-    forward-refused : (number : ℕ) → placed_look t (length memory) (length journal) p ≡ refuse number → (forward_from t (lent t memory journal p)).answer ≡ S.Refused number p
+    forward-refused : (number : ℕ) → placed_look t (length memory) (length journal) p ≡ Err number → (forward_from t (lent t memory journal p)).answer ≡ Err (number, p)
     unfolding forward_tables with_tail forward_look stepped ◌>>=◌
     forward-refused number e = rw e
 
     refused_is : (allowance number : ℕ) (p' : Position) (o : Outcome ℕ) → placed_look t (length memory) (length journal) p ≡ o
-        → (unless_refused o p memory journal (run allowance)).answer ≡ Refused number p'
-        → (ended (unless_refused o p memory journal (run allowance)) ≡ lent t memory journal p) × ((forward_from t (lent t memory journal p)).answer ≡ S.Refused number p)
-    refused_is allowance number p' (ok n) h e =
+        → (unless_refused o p memory journal (run allowance)).answer ≡ Err (number, p')
+        → (ended (unless_refused o p memory journal (run allowance)) ≡ lent t memory journal p) × ((forward_from t (lent t memory journal p)).answer ≡ Err (number, p))
+    refused_is allowance number p' (Ok n) h e =
         let g = goes allowance 0 (lent t memory journal p) in
-        let same : Ran (0 + g.steps) g.stop g.position ≡ Refused number p' = sym g.answer_is ∙ e in
+        let same : Ok (0 + g.steps, g.stop, g.position) ≡ Err (number, p') = sym g.answer_is ∙ e in
         let z : ◌≡◌ {A = ℕ} 0 1 = cc in absurd (omega arith)
-    refused_is allowance number p' (refuse k) h e = let q : k ≡ number = cc in (refl, forward-refused number (h ∙ ap refuse q))
+    refused_is allowance number p' (Err k) h e = let q : k ≡ number = cc in (refl, forward-refused number (h ∙ ap Err q))
 
     none_is : (o : Outcome ℕ) → ended (unless_refused o p memory journal (run 0)) ≡ lent t memory journal p
     unfolding run_by
-    none_is (ok n) = refl
-    none_is (refuse number) = refl
+    none_is (Ok n) = refl
+    none_is (Err number) = refl
 
     runs : Runs t memory journal p
     unfolding run_tables

@@ -1,15 +1,13 @@
 -- 02, P4: what is claimed of every run, whatever it is lent. To be read without the proofs; Top.antt in proofs/ has the theorem. The quoted sentences are 02's and 01's.
-use Rattle.std.specs.Prelude.{ℕ, zero, suc, ◌+◌, ◌<◌, ◌≤◌, true, false, List, [], ◌≡◌}
+use Rattle.std.specs.Prelude.{ℕ, zero, suc, ◌+◌, ◌<◌, ◌≤◌, true, false, List, [], ◌≡◌, Ok, Err}
 use Rattle.tables.specs.Tables.{Tables}
 use Rattle.tables.specs.Rows.{instruction_rows, instruction_at}
 use Rattle.journal.specs.declared.position.Position.{Position}
 use Rattle.machine.specs.Outcome.{is_call}
 use Rattle.session.specs.Answer.{run_position}
 use Rattle.session.specs.Session.{Session, after}
-use Rattle.session.specs.declared.answer.StepAnswer.TheVariants as S
 use Rattle.session.specs.declared.answer.Stop.{Stop}
 use Rattle.session.specs.declared.answer.Stop.TheVariants.{Allowance, End, Call, Refusal}
-use Rattle.session.specs.declared.answer.RunAnswer.TheVariants.{Ran, Refused}
 use Rattle.session_forward.specs.Forward.{Left, forward_tables}
 use Rattle.session_run.specs.Run.{Running, run_tables}
 
@@ -25,7 +23,7 @@ forwards t (suc n) s = forwards t n (after (forward_from t s))
 -- a forward that moves
 pub record Moves (t : Tables) (s : Session) : Type 0 where
   pub position : Position
-  pub moved : (forward_from t s).answer ≡ S.Moved position
+  pub moved : (forward_from t s).answer ≡ Ok position
 
 -- a session that stands before a CALL
 pub record BeforeCall (t : Tables) (s : Session) : Type 0 where
@@ -36,7 +34,7 @@ pub record BeforeCall (t : Tables) (s : Session) : Type 0 where
 pub record AtRefusal (t : Tables) (s : Session) (number : ℕ) : Type 0 where
   pub row : s.position.row < instruction_rows t.instructions
   pub plain : is_call (instruction_at t.instructions s.position.row) ≡ false
-  pub refused : (forward_from t s).answer ≡ S.Refused number s.position
+  pub refused : (forward_from t s).answer ≡ Err (number, s.position)
 
 -- "or sooner only at the end, before a CALL or at a refusal, and says which": what each stop says of the allowance, the steps taken and where the run came to.
 -- Of one session no two stops say something true: "before each step, come allowance, end, CALL, refusal".
@@ -68,11 +66,11 @@ module _ (t : Tables) (memory journal : List ℕ) (p : Position) where
   lent = record { memory = memory; journal = journal; position = p }
 
   pub record Runs : Type 0 where
-    pub ran : (allowance steps : ℕ) (stop : Stop) (p' : Position) → (run_tables t memory journal p allowance).answer ≡ Ran steps stop p'
+    pub ran : (allowance steps : ℕ) (stop : Stop) (p' : Position) → (run_tables t memory journal p allowance).answer ≡ Ok (steps, stop, p')
         → RunIs t lent allowance steps stop (ended (run_tables t memory journal p allowance))
     -- "It makes forward's looks up to 19 first": a run is refused only where a forward is, with its number. "A refusal returns its number .. and the position as given", and writes nothing.
-    pub refused : (allowance number : ℕ) (p' : Position) → (run_tables t memory journal p allowance).answer ≡ Refused number p'
-        → (ended (run_tables t memory journal p allowance) ≡ lent) × ((forward_from t lent).answer ≡ S.Refused number p)
+    pub refused : (allowance number : ℕ) (p' : Position) → (run_tables t memory journal p allowance).answer ≡ Err (number, p')
+        → (ended (run_tables t memory journal p allowance) ≡ lent) × ((forward_from t lent).answer ≡ Err (number, p))
     -- "and an allowance of 0 changes nothing"
     pub none : ended (run_tables t memory journal p 0) ≡ lent
 

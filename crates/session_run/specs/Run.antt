@@ -1,18 +1,16 @@
 -- 02, P4: "A run key is added: it stops after a stated number of steps and reports the number taken, or sooner only at the end, before a CALL or at a refusal, and says which."
-use Rattle.std.specs.Prelude.{ℕ, zero, suc, ◌+◌, cond, List, [], length, leb}
-use Rattle.tables.specs.Outcome.{Outcome, ok, refuse}
+use Rattle.session.specs.Answer.{RunAnswer}
+use Rattle.session.specs.Answer.{StepAnswer}
+use Rattle.std.specs.Prelude.{ℕ, zero, suc, ◌+◌, cond, List, [], length, leb, Ok, Err}
+use Rattle.tables.specs.Outcome.{Outcome}
 use Rattle.tables.specs.Tables.{Tables}
 use Rattle.tables.specs.Rows.{instruction_rows, instruction_at}
 use Rattle.journal.specs.declared.position.Position.{Position}
 use Rattle.machine.specs.Outcome.{is_call}
 use Rattle.session.specs.Position.{placed_look}
 use Rattle.session.specs.Leaves.{Leaves, leaves}
-use Rattle.session.specs.declared.answer.StepAnswer.{StepAnswer}
-use Rattle.session.specs.declared.answer.StepAnswer.TheVariants as S
 use Rattle.session.specs.declared.answer.Stop.{Stop}
 use Rattle.session.specs.declared.answer.Stop.TheVariants.{Allowance, End, Call, Refusal}
-use Rattle.session.specs.declared.answer.RunAnswer.{RunAnswer}
-use Rattle.session.specs.declared.answer.RunAnswer.TheVariants.{Ran, Refused}
 use Rattle.session_forward.specs.Forward.{Left, forward_tables}
 
 -- ---- what run leaves
@@ -25,7 +23,7 @@ running = leaves
 
 -- stopped after so many steps, for a reason, at a position
 abbrev pub stopped : ℕ → Stop → Position → List ℕ → List ℕ → Running
-stopped taken stop p memory journal = running (Ran taken stop p) memory journal
+stopped taken stop p memory journal = running (Ok (taken, stop, p)) memory journal
 
 -- ---- one turn
 
@@ -39,8 +37,8 @@ Rest = List ℕ → List ℕ → Position → Running
 
 -- "A stop at a step's refusal is an answer that gives its number and keeps the steps already taken."; else the run goes on from what the step left
 abbrev pub onward : Rest → ℕ → List ℕ → List ℕ → StepAnswer → Running
-onward rest taken memory journal (S.Moved p) = rest memory journal p
-onward rest taken memory journal (S.Refused number p) = stopped taken (Refusal number) p memory journal
+onward rest taken memory journal (Ok p) = rest memory journal p
+onward rest taken memory journal (Err (number, p)) = stopped taken (Refusal number) p memory journal
 
 -- "before each step, come allowance, end, CALL, refusal": from the end on
 unfoldable pub turn : Step → List ℕ → Rest → ℕ → List ℕ → List ℕ → Position → Running
@@ -62,8 +60,8 @@ forward_step t memory journal p = forward_tables t memory journal p []
 
 -- where the looks before the first step refuse nothing
 abbrev pub unless_refused : {A : Type 0} → Outcome A → Position → List ℕ → List ℕ → Running → Running
-unless_refused (ok a) p memory journal run = run
-unless_refused (refuse number) p memory journal run = running (Refused number p) memory journal
+unless_refused (Ok a) p memory journal run = run
+unless_refused (Err number) p memory journal run = running (Err (number, p)) memory journal
 
 -- "It makes forward's looks up to 19 first": "1, 2, 3, 10, 4, 19"
 unfoldable pub run_tables : Tables → List ℕ → List ℕ → Position → ℕ → Running

@@ -6,6 +6,7 @@ ghost use Rattle.session_forward.specs.Step.{Steppable};
 ghost use Rattle.session_run.specs.Run.{Rest, running, onward, turn, run_by};
 ghost use Rattle.session_run.specs.Turn.{cell_step, after_turn, run_cells};
 
+use std::ops::ControlFlow;
 use journal::entries::ENTRY_WIDTH;
 use journal::position::Position;
 use labels::labels::{NO_ROW, find_targets};
@@ -13,23 +14,16 @@ use session::answer::{RunAnswer, StepAnswer, Stop};
 use session::position::position_fits;
 use session_forward::step::step_row;
 use tables::family::CALL;
-use tables::refusal::FOREIGN_POSITION;
+use tables::refusal::Refusal;
 use tables::rows::{INSTRUCTION_LIMIT, INSTRUCTION_WIDTH, instruction_at};
 
-// What a turn comes to: the position after a step, or why it was not taken with the position as it was.
-#[derive(Drop)]
-pub enum Turn {
-    Moved(Position),
-    Stopped(Stop, Position),
-}
-
 // What a forward comes to.
-fn turn_of(answer: StepAnswer) -> Turn
+fn turn_of(answer: StepAnswer) -> ControlFlow<(Stop, Position), Position>
     ensures { (rest : Rest) (taken : ℕ) (cells journal : List ℕ) → after_turn rest taken cells journal result ≡ onward rest taken cells journal answer }
 {
     match answer {
-        StepAnswer::Moved(p) => Turn::Moved(p),
-        StepAnswer::Refused(number, p) => Turn::Stopped(Stop::Refusal(number), p),
+        Ok(p) => ControlFlow::Continue(p),
+        Err((number, p)) => ControlFlow::Break((Stop::Refusal(number), p)),
     }
 }
 
@@ -45,17 +39,17 @@ fn take_turn(
     cells: &mut [u64],
     journal: &mut [u64],
     p: Position,
-) -> Turn
+) -> ControlFlow<(Stop, Position), Position>
     requires { Steppable regions.now externs.now parameters.now arguments.now instructions.now cells.old (length journal.old) × LabelsKnown instructions.now fit targets.now }
     ensures { (nodes : List ℕ) (rest : Rest) (taken : ℕ) → after_turn rest taken cells.new journal.new result ≡ turn (cell_step (tables_of regions.now externs.now parameters.now nodes arguments.now instructions.now)) instructions.now rest taken cells.old journal.old p }
 {
     let row = p.row;
     if instructions.len() / INSTRUCTION_WIDTH <= row {
-        return Turn::Stopped(Stop::End, p);
+        return ControlFlow::Break((Stop::End, p));
     }
     let x = instruction_at(instructions, row);
     if x.family == CALL {
-        return Turn::Stopped(Stop::Call, p);
+        return ControlFlow::Break((Stop::Call, p));
     }
     let answer = step_row(
         regions,
@@ -106,14 +100,14 @@ pub fn run_rows(
             position,
         );
         match turn {
-            Turn::Stopped(stop, at) => return RunAnswer::Ran(taken, stop, at),
-            Turn::Moved(next) => {
+            ControlFlow::Break((stop, at)) => return Ok((taken, stop, at)),
+            ControlFlow::Continue(next) => {
                 position = next;
                 taken += 1;
             }
         }
     }
-    RunAnswer::Ran(taken, Stop::Allowance, position)
+    Ok((taken, Stop::Allowance, position))
 }
 
 // Run behind 1, 2, 3, 10 and 4: the position and the labels of the program are looked at once, and each jump's target is found.
@@ -132,7 +126,7 @@ pub fn run_cells(
     ensures { (nodes : List ℕ) → running result cells.new journal.new ≡ run_cells (tables_of regions.now externs.now parameters.now nodes arguments.now instructions.now) cells.old journal.old p allowance }
 {
     if !position_fits(instructions, journal.len() / ENTRY_WIDTH, p) {
-        return RunAnswer::Refused(FOREIGN_POSITION, p);
+        return Err((Refusal::ForeignPosition, p));
     }
     let mut targets = [NO_ROW; INSTRUCTION_LIMIT];
     let fit = find_targets(instructions, &mut targets);

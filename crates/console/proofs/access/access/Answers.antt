@@ -1,24 +1,23 @@
-use Rattle.tables.specs.Outcome.{seen}
-use Rattle.tables.specs.Look.{look_outcome}
+use Rattle.tables.proofs.Passed.{seen}
 use Rattle.loader.proofs.Loaded.{loaded_row, chosen}
 use Rattle.console.specs.Access.{access_tables}
 use Rattle.console.proofs.Facts.{call-ranges}
 use Rattle.access_sets.specs.Access.{access_call}
 use Rattle.console.proofs.access.access.Goals as goal
 
-pub returns-in-Refused : goal.returns-in-Refused
+pub returns-in-Err : goal.returns-in-Err
 unfolding access_tables
-returns-in-Refused c = rw (seen look_outcome c.load_row-loaded.ensures c.in-Refused.is)
+returns-in-Err c = rw (seen c.load_row-loaded.ensures c.in-Err.is)
 
 pub instruction_at-x-requires : goal.instruction_at-x-requires
-instruction_at-x-requires c = (chosen _ _ _ (loaded_row _ _ _ (seen look_outcome c.load_row-loaded.ensures c.in_default.is)).1).0
+instruction_at-x-requires c = (chosen _ _ _ (loaded_row _ _ _ (seen c.load_row-loaded.ensures c.in_default.is)).1).0
 
 pub access_call-requires : goal.access_call-requires
 access_call-requires c =
-    let l = loaded_row _ _ _ (seen look_outcome c.load_row-loaded.ensures c.in_default.is) in
+    let l = loaded_row _ _ _ (seen c.load_row-loaded.ensures c.in_default.is) in
     rw c.instruction_at-x.ensures (call-ranges _ l.0 l.1)
 
 pub returns : goal.returns
 unfolding access_tables
 returns c =
-    rw (seen look_outcome c.load_row-loaded.ensures c.in_default.is) (rw c.instruction_at-x.ensures at c.access_call.ensures)
+    rw (seen c.load_row-loaded.ensures c.in_default.is) (rw c.instruction_at-x.ensures at c.access_call.ensures)

@@ -1,24 +1,23 @@
+use Rattle.tables.proofs.Passed.{seen}
 use mathlib.Core.Path.{ap, ◌∙◌}
-use Rattle.tables.specs.Outcome.{seen}
-use Rattle.tables.specs.Look.{look_outcome}
 use Rattle.loader.proofs.Loaded.{loaded_row, chosen}
 use Rattle.console.specs.Frame.{frame_answer, frame_tables}
 use Rattle.console.proofs.Facts.{frame_range}
 use Rattle.console.proofs.frame.frame.Goals as goal
 
-pub returns-in-Refused : goal.returns-in-Refused
+pub returns-in-Err : goal.returns-in-Err
 unfolding frame_tables
-returns-in-Refused c = rw (seen look_outcome c.load_row-loaded.ensures c.in-Refused.is)
+returns-in-Err c = rw (seen c.load_row-loaded.ensures c.in-Err.is)
 
 pub instruction_at-x-requires : goal.instruction_at-x-requires
-instruction_at-x-requires c = (chosen _ _ _ (loaded_row _ _ _ (seen look_outcome c.load_row-loaded.ensures c.in_default.is)).1).0
+instruction_at-x-requires c = (chosen _ _ _ (loaded_row _ _ _ (seen c.load_row-loaded.ensures c.in_default.is)).1).0
 
 pub check_frame-requires : goal.check_frame-requires
 check_frame-requires c =
-    let l = loaded_row _ _ _ (seen look_outcome c.load_row-loaded.ensures c.in_default.is) in
+    let l = loaded_row _ _ _ (seen c.load_row-loaded.ensures c.in_default.is) in
     rw c.instruction_at-x.ensures (frame_range _ l.0 l.1)
 
 pub returns : goal.returns
 unfolding frame_tables
 returns c =
-    rw (seen look_outcome c.load_row-loaded.ensures c.in_default.is) (c.frame_answer.ensures ∙ ap frame_answer (rw c.instruction_at-x.ensures at c.check_frame.ensures))
+    rw (seen c.load_row-loaded.ensures c.in_default.is) (c.frame_answer.ensures ∙ ap frame_answer (rw c.instruction_at-x.ensures at c.check_frame.ensures))

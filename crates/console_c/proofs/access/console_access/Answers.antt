@@ -1,10 +1,10 @@
 use Rattle.console_c.specs.Access.{console_access}
 use Rattle.console_c.proofs.access.console_access.Goals as goal
 
-pub returns-in-Refused : goal.returns-in-Refused
+pub returns-in-Err : goal.returns-in-Err
 unfolding console_access
-returns-in-Refused c = rw (← c.access-answer.ensures, c.in-Refused.is)
+returns-in-Err c = rw (← c.access-answer.ensures, c.in-Err.is)
 
-pub returns-in-Sets : goal.returns-in-Sets
+pub returns-in-Ok : goal.returns-in-Ok
 unfolding console_access
-returns-in-Sets c = rw (← c.access-answer.ensures, c.in-Sets.is)
+returns-in-Ok c = rw (← c.access-answer.ensures, c.in-Ok.is)

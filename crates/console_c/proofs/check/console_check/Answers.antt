@@ -2,14 +2,14 @@ use mathlib.Core.Path.{sym, ◌∙◌}
 use Rattle.console_c.specs.Check.{console_check}
 use Rattle.console_c.proofs.check.console_check.Goals as goal
 
-pub returns-in-Accepted : goal.returns-in-Accepted
+pub returns-in-Ok : goal.returns-in-Ok
 unfolding console_check
-returns-in-Accepted c = rw (sym c.check-answer.ensures ∙ c.in-Accepted.is)
+returns-in-Ok c = rw (sym c.check-answer.ensures ∙ c.in-Ok.is)
 
-pub returns-in-Refused : goal.returns-in-Refused
+pub returns-in-Err : goal.returns-in-Err
 unfolding console_check
-returns-in-Refused c = rw (sym c.check-answer.ensures ∙ c.in-Refused.is)
+returns-in-Err c = rw (sym c.check-answer.ensures ∙ c.in-Err.is)
 
-pub returns-in-Error : goal.returns-in-Error
+pub returns-in-Err : goal.returns-in-Err
 unfolding console_check
-returns-in-Error c = rw (sym c.check-answer.ensures ∙ c.in-Error.is, c.write_error.ensures)
+returns-in-Err c = rw (sym c.check-answer.ensures ∙ c.in-Err.is, c.write_error.ensures)

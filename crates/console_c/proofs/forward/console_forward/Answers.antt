@@ -1,12 +1,12 @@
 use Rattle.console_c.specs.Forward.{console_forward}
 use Rattle.console_c.proofs.forward.console_forward.Goals as goal
 
-pub returns-in-Refused : goal.returns-in-Refused
+pub returns-in-Err : goal.returns-in-Err
 unfolding console_forward
-returns-in-Refused c =
-    rw (← c.position_in-old.ensures, ← c.forward-answer.ensures, c.in-Refused.is)
+returns-in-Err c =
+    rw (← c.position_in-old.ensures, ← c.forward-answer.ensures, c.in-Err.is)
 
-pub returns-in-Moved : goal.returns-in-Moved
+pub returns-in-Ok : goal.returns-in-Ok
 unfolding console_forward
-returns-in-Moved c =
-    rw (← c.position_in-old.ensures, ← c.forward-answer.ensures, c.in-Moved.is, c.write_position.ensures)
+returns-in-Ok c =
+    rw (← c.position_in-old.ensures, ← c.forward-answer.ensures, c.in-Ok.is, c.write_position.ensures)

@@ -2,14 +2,14 @@ use mathlib.Core.Path.{sym, ◌∙◌}
 use Rattle.console_c.specs.JournalLength.{console_journal_length}
 use Rattle.console_c.proofs.journal_length.console_journal_length.Goals as goal
 
-pub returns-in-Entries : goal.returns-in-Entries
+pub returns-in-Ok : goal.returns-in-Ok
 unfolding console_journal_length
-returns-in-Entries c = rw (sym c.journal_length-answer.ensures ∙ c.in-Entries.is)
+returns-in-Ok c = rw (sym c.journal_length-answer.ensures ∙ c.in-Ok.is)
 
-pub returns-in-Refused : goal.returns-in-Refused
+pub returns-in-Err : goal.returns-in-Err
 unfolding console_journal_length
-returns-in-Refused c = rw (sym c.journal_length-answer.ensures ∙ c.in-Refused.is)
+returns-in-Err c = rw (sym c.journal_length-answer.ensures ∙ c.in-Err.is)
 
-pub returns-in-Error : goal.returns-in-Error
+pub returns-in-Err : goal.returns-in-Err
 unfolding console_journal_length
-returns-in-Error c = rw (sym c.journal_length-answer.ensures ∙ c.in-Error.is, c.write_error.ensures)
+returns-in-Err c = rw (sym c.journal_length-answer.ensures ∙ c.in-Err.is, c.write_error.ensures)

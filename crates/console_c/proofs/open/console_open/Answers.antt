@@ -1,14 +1,14 @@
 use Rattle.console_c.specs.Open.{console_open}
 use Rattle.console_c.proofs.open.console_open.Goals as goal
 
-pub returns-in-Opened : goal.returns-in-Opened
+pub returns-in-Ok : goal.returns-in-Ok
 unfolding console_open
-returns-in-Opened c = rw (← c.open-answer.ensures, c.in-Opened.is, c.write_position.ensures)
+returns-in-Ok c = rw (← c.open-answer.ensures, c.in-Ok.is, c.write_position.ensures)
 
-pub returns-in-Refused : goal.returns-in-Refused
+pub returns-in-Err : goal.returns-in-Err
 unfolding console_open
-returns-in-Refused c = rw (← c.open-answer.ensures, c.in-Refused.is)
+returns-in-Err c = rw (← c.open-answer.ensures, c.in-Err.is)
 
-pub returns-in-Error : goal.returns-in-Error
+pub returns-in-Err : goal.returns-in-Err
 unfolding console_open
-returns-in-Error c = rw (← c.open-answer.ensures, c.in-Error.is, c.write_error.ensures)
+returns-in-Err c = rw (← c.open-answer.ensures, c.in-Err.is, c.write_error.ensures)

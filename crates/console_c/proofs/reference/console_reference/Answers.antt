@@ -2,10 +2,10 @@ use mathlib.Core.Path.{sym, ◌∙◌}
 use Rattle.console_c.specs.Reference.{console_reference}
 use Rattle.console_c.proofs.reference.console_reference.Goals as goal
 
-pub returns-in-Refused : goal.returns-in-Refused
+pub returns-in-Err : goal.returns-in-Err
 unfolding console_reference
-returns-in-Refused c = rw (sym c.memory_references-answer.ensures ∙ c.in-Refused.is)
+returns-in-Err c = rw (sym c.memory_references-answer.ensures ∙ c.in-Err.is)
 
-pub returns-in-Went : goal.returns-in-Went
+pub returns-in-Ok : goal.returns-in-Ok
 unfolding console_reference
-returns-in-Went c = rw (sym c.memory_references-answer.ensures ∙ c.in-Went.is, c.write_found.ensures)
+returns-in-Ok c = rw (sym c.memory_references-answer.ensures ∙ c.in-Ok.is, c.write_found.ensures)

@@ -1,7 +1,7 @@
 use Rattle.console_c.proofs.reference.write_found.Goals as goal
 
-pub returns-in-Reference : goal.returns-in-Reference
-returns-in-Reference c = rw c.in-Reference.is
+pub returns-in-Some : goal.returns-in-Some
+returns-in-Some c = rw c.in-Some.is
 
-pub returns-in-End : goal.returns-in-End
-returns-in-End c = rw c.in-End.is
+pub returns-in-None : goal.returns-in-None
+returns-in-None c = rw c.in-None.is

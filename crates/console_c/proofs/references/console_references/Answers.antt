@@ -1,10 +1,10 @@
 use Rattle.console_c.specs.References.{console_references}
 use Rattle.console_c.proofs.references.console_references.Goals as goal
 
-pub returns-in-Refused : goal.returns-in-Refused
+pub returns-in-Err : goal.returns-in-Err
 unfolding console_references
-returns-in-Refused c = rw (← c.references-answer.ensures, c.in-Refused.is)
+returns-in-Err c = rw (← c.references-answer.ensures, c.in-Err.is)
 
-pub returns-in-Handed : goal.returns-in-Handed
+pub returns-in-Ok : goal.returns-in-Ok
 unfolding console_references
-returns-in-Handed c = rw (← c.references-answer.ensures, c.in-Handed.is)
+returns-in-Ok c = rw (← c.references-answer.ensures, c.in-Ok.is)

@@ -1,14 +1,14 @@
 use Rattle.console_c.specs.Resolve.{console_resolve}
 use Rattle.console_c.proofs.resolve.console_resolve.Goals as goal
 
-pub returns-in-Refused : goal.returns-in-Refused
+pub returns-in-Err : goal.returns-in-Err
 unfolding console_resolve
-returns-in-Refused c = rw (← c.resolve-answer.ensures, c.in-Refused.is)
+returns-in-Err c = rw (← c.resolve-answer.ensures, c.in-Err.is)
 
-pub returns-in-Errors : goal.returns-in-Errors
+pub returns-in-Err : goal.returns-in-Err
 unfolding console_resolve
-returns-in-Errors c = rw (← c.resolve-answer.ensures, c.in-Errors.is)
+returns-in-Err c = rw (← c.resolve-answer.ensures, c.in-Err.is)
 
-pub returns-in-Resolved : goal.returns-in-Resolved
+pub returns-in-Ok : goal.returns-in-Ok
 unfolding console_resolve
-returns-in-Resolved c = rw (← c.resolve-answer.ensures, c.in-Resolved.is)
+returns-in-Ok c = rw (← c.resolve-answer.ensures, c.in-Ok.is)

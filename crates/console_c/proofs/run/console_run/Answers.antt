@@ -1,12 +1,12 @@
 use Rattle.console_c.specs.Run.{console_run}
 use Rattle.console_c.proofs.run.console_run.Goals as goal
 
-pub returns-in-Refused : goal.returns-in-Refused
+pub returns-in-Err : goal.returns-in-Err
 unfolding console_run
-returns-in-Refused c =
-    rw (← c.position_in-old.ensures, ← c.run-answer.ensures, c.in-Refused.is)
+returns-in-Err c =
+    rw (← c.position_in-old.ensures, ← c.run-answer.ensures, c.in-Err.is)
 
-pub returns-in-Ran : goal.returns-in-Ran
+pub returns-in-Ok : goal.returns-in-Ok
 unfolding console_run
-returns-in-Ran c =
-    rw (← c.position_in-old.ensures, ← c.run-answer.ensures, c.in-Ran.is, c.write_position.ensures, c.write_ran.ensures)
+returns-in-Ok c =
+    rw (← c.position_in-old.ensures, ← c.run-answer.ensures, c.in-Ok.is, c.write_position.ensures, c.write_ran.ensures)

@@ -1,5 +1,6 @@
+use Rattle.tables.proofs.Passed.{seen}
 use mathlib.Core.Path.{◌≡◌}
-use Rattle.tables.specs.Outcome.{◌>>=◌, seen}
+use Rattle.tables.specs.Outcome.{◌>>=◌}
 use Rattle.machine.specs.Outcome.{plain_outcome, row_outcome}
 use Rattle.machine.specs.declared.outcome.RowOutcome.{RowOutcome}
 use Rattle.machine.proofs.WritesLaws.{writes-within}
@@ -18,11 +19,11 @@ step_two-requires c =
     let does : (r : RowOutcome) → c.plain_outcome-outcome.result ≡ r → plain_outcome c.args.regions.now c.args.cells.now c.args.x c.args.reply.now ≡ row_outcome r = λ r e. seen row_outcome c.plain_outcome-outcome.ensures e in
     let h = two_there c.requires.0.layout (writes-within c.requires.0.layout.laid c.args.cells.now c.args.x c.args.reply.now (does _ c.in-Two.is)) in (c.requires.1, h.0, h.1)
 
-pub returns-in-Refused : goal.returns-in-Refused
+pub returns-in-Err : goal.returns-in-Err
 unfolding row_leaves stepped ◌>>=◌
-returns-in-Refused c =
+returns-in-Err c =
     let does : (r : RowOutcome) → c.plain_outcome-outcome.result ≡ r → plain_outcome c.args.regions.now c.args.cells.now c.args.x c.args.reply.now ≡ row_outcome r = λ r e. seen row_outcome c.plain_outcome-outcome.ensures e in
-    rw (does _ c.in-Refused.is)
+    rw (does _ c.in-Err.is)
 
 pub returns-in-NoWrites : goal.returns-in-NoWrites
 returns-in-NoWrites c =

@@ -8,15 +8,15 @@ program_verdict-verdict-requires c = c.requires.loads
 pub zero_cells-requires : goal.zero_cells-requires
 zero_cells-requires c = c.requires.layout
 
-pub returns-in-Refused : goal.returns-in-Refused
+pub returns-in-Err : goal.returns-in-Err
 unfolding open_cells
-returns-in-Refused c = rw (sym c.program_verdict-verdict.ensures ∙ c.in-Refused.is)
+returns-in-Err c = rw (sym c.program_verdict-verdict.ensures ∙ c.in-Err.is)
 
-pub returns-in-Error : goal.returns-in-Error
+pub returns-in-Err : goal.returns-in-Err
 unfolding open_cells
-returns-in-Error c = rw (sym c.program_verdict-verdict.ensures ∙ c.in-Error.is)
+returns-in-Err c = rw (sym c.program_verdict-verdict.ensures ∙ c.in-Err.is)
 
-pub returns-in-Accepted : goal.returns-in-Accepted
+pub returns-in-Ok : goal.returns-in-Ok
 unfolding open_cells
-returns-in-Accepted c =
-    rw (sym c.program_verdict-verdict.ensures ∙ c.in-Accepted.is, c.zero_cells.ensures, c.first.ensures)
+returns-in-Ok c =
+    rw (sym c.program_verdict-verdict.ensures ∙ c.in-Ok.is, c.zero_cells.ensures, c.first.ensures)

@@ -13,11 +13,11 @@ loop-taken-init c = (refl, refl, λ nodes. run-start _ _ _ _ _ _)
 pub take_turn-turn-requires : goal.take_turn-turn-requires
 take_turn-turn-requires c = (steppable_kept c.requires.0 c.loop-taken.invariant.0 c.loop-taken.invariant.1, c.requires.1)
 
-pub returns-in-Stopped : goal.returns-in-Stopped
-returns-in-Stopped c =
+pub returns-in-Break : goal.returns-in-Break
+returns-in-Break c =
     λ nodes. let t : Tables = tables_of c.args.regions.now c.args.externs.now c.args.parameters.now nodes c.args.arguments.now c.args.instructions.now in
     let rest : Rest = run_by (cell_step t) c.args.instructions.now (c.args.allowance - (c.loop-taken.taken + 1)) (c.loop-taken.taken + 1) in
-    ap (after_turn rest c.loop-taken.taken c.take_turn-turn.new.cells c.take_turn-turn.new.journal) (sym c.in-Stopped.is) ∙ c.take_turn-turn.ensures nodes rest c.loop-taken.taken ∙ sym (run-turn _ _ _ _ _ _ c.loop-taken.taken c.loop-taken-test.true) ∙ c.loop-taken.invariant.2 nodes
+    ap (after_turn rest c.loop-taken.taken c.take_turn-turn.new.cells c.take_turn-turn.new.journal) (sym c.in-Break.is) ∙ c.take_turn-turn.ensures nodes rest c.loop-taken.taken ∙ sym (run-turn _ _ _ _ _ _ c.loop-taken.taken c.loop-taken-test.true) ∙ c.loop-taken.invariant.2 nodes
 
 pub loop-taken-preserved : goal.loop-taken-preserved
 loop-taken-preserved c = (
@@ -25,7 +25,7 @@ loop-taken-preserved c = (
   c.take_turn-turn.auto.journal ∙ c.loop-taken.invariant.1,
   λ nodes. let t : Tables = tables_of c.args.regions.now c.args.externs.now c.args.parameters.now nodes c.args.arguments.now c.args.instructions.now in
       let rest : Rest = run_by (cell_step t) c.args.instructions.now (c.args.allowance - (c.loop-taken.taken + 1)) (c.loop-taken.taken + 1) in
-      ap (after_turn rest c.loop-taken.taken c.take_turn-turn.new.cells c.take_turn-turn.new.journal) (sym c.in-Moved.is) ∙ c.take_turn-turn.ensures nodes rest c.loop-taken.taken ∙ sym (run-turn _ _ _ _ _ _ c.loop-taken.taken c.loop-taken-test.true) ∙ c.loop-taken.invariant.2 nodes,
+      ap (after_turn rest c.loop-taken.taken c.take_turn-turn.new.cells c.take_turn-turn.new.journal) (sym c.in-Continue.is) ∙ c.take_turn-turn.ensures nodes rest c.loop-taken.taken ∙ sym (run-turn _ _ _ _ _ _ c.loop-taken.taken c.loop-taken-test.true) ∙ c.loop-taken.invariant.2 nodes,
 )
 
 pub returns : goal.returns
