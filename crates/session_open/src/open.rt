@@ -3,7 +3,6 @@ ghost use Rattle.std.specs.Prelude.{◌≡◌};
 ghost use Rattle.tables.specs.Tables.{tables_of};
 ghost use Rattle.session_open.specs.Open.{opening, program_verdict, open_cells, Openable};
 
-use type_rules::error::ProgramError;
 use crate::verdict::program_verdict;
 use crate::zero::zero_cells;
 use journal::position::Position;
@@ -21,13 +20,7 @@ pub fn open_cells(
     requires { Openable (tables_of regions.now externs.now parameters.now nodes.now arguments.now instructions.now) cells.old }
     ensures { opening result cells.new ≡ open_cells regions.now cells.old (program_verdict (tables_of regions.now externs.now parameters.now nodes.now arguments.now instructions.now)) }
 {
-    let verdict = program_verdict(regions, externs, parameters, nodes, arguments, instructions);
-    match verdict {
-        Err(ProgramError::Refused(number)) => Err(ProgramError::Refused(number)),
-        Err(ProgramError::Type(error)) => Err(ProgramError::Type(error)),
-        Ok(()) => {
-            zero_cells(regions, cells);
-            Ok(Position::first())
-        }
-    }
+    program_verdict(regions, externs, parameters, nodes, arguments, instructions)?;
+    zero_cells(regions, cells);
+    Ok(Position::first())
 }

@@ -35,11 +35,8 @@ fn call_look(
     if x.family != family::CALL {
         return Ok(());
     }
-    let answer = resolves(regions, externs, parameters, arguments, x);
-    match answer {
-        Ok(_) => Ok(()),
-        Err(number) => Err(number),
-    }
+    resolves(regions, externs, parameters, arguments, x)?;
+    Ok(())
 }
 
 // Every row: the first that is refused.
@@ -55,10 +52,7 @@ fn calls_look(
 {
     let rows = instructions.len() / INSTRUCTION_WIDTH;
     for row in 0..rows {
-        let look = call_look(regions, externs, parameters, arguments, instructions, row);
-        if let Err(number) = look {
-            return Err(number);
-        }
+        call_look(regions, externs, parameters, arguments, instructions, row)?;
     }
     Ok(())
 }
