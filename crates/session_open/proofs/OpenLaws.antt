@@ -6,6 +6,7 @@ use Prim.Native.Nat.{ℕ, ◌*◌}
 use mathlib.Core.List.{List, ◌++◌}
 use mathlib.Core.Path.{◌≡◌, refl}
 use lib.ListN.{length, take, drop}
+use Rattle.tables.specs.declared.refusal.Refusal.{Refusal}
 use Rattle.tables.specs.Tables.{Tables}
 use Rattle.tables.specs.Cells.{cell_count}
 use Rattle.loader.proofs.Loaded.{Loaded, few-instructions}
@@ -27,7 +28,7 @@ ready_open r = record { loads = r.loads; layout = r.layout }
 
 module _ (t : Tables) (memory : List ℕ) (journal : ℕ) where
   -- 1, 2, 3, 10 or 4
-  pub open_unprepared : {number : ℕ} → prepared_of t (length memory) journal ≡ Err number → opening (Err (P.Refused number)) memory ≡ open_tables t memory journal
+  pub open_unprepared : {number : Refusal} → prepared_of t (length memory) journal ≡ Err number → opening (Err (P.Refused number)) memory ≡ open_tables t memory journal
   unfolding open_tables open_verdict open_cells
   open_unprepared {number} e = rw e (all_kept (cell_width * cell_count t.regions) memory (λ cells. open_cells t.regions cells (Err (P.Refused number))) refl)
 

@@ -72,7 +72,7 @@ call_tables regions externs parameters arguments instructions = tables_of region
 -- the first look that turns the program down is the verdict
 abbrev pub unless_refused : {A : Type 0} → Outcome A → Result (Unit {0}) ProgramError → Result (Unit {0}) ProgramError
 unless_refused (Ok a) rest = rest
-unless_refused (Err number) rest = (λ r. Err (P.Refused r)) number
+unless_refused (Err r) rest = Err (P.Refused r)
 
 abbrev pub unless_error : Result (Unit {0}) TypeError → Result (Unit {0}) ProgramError → Result (Unit {0}) ProgramError
 unless_error (Ok _) rest = rest
@@ -104,8 +104,7 @@ opening answer memory = leaves answer memory tt
 -- on the cells of the regions: "Open zeroes each cell with its declared kind .. and gives" the first position; "A refusal .. writes nothing"
 unfoldable pub open_cells : List ℕ → List ℕ → Result (Unit {0}) ProgramError → Opening
 open_cells regions cells (Ok _) = opening (Ok first_position) (zeros regions)
-open_cells regions cells (Err (P.Refused number)) = opening (Err (P.Refused number)) cells
-open_cells regions cells (Err (P.Type e)) = opening (Err (P.Type e)) cells
+open_cells regions cells (Err e) = opening (Err e) cells
 
 -- What the function behind it asks for: the tables are loaded, and the cells are those of their regions.
 pub record Openable (t : Tables) (cells : List ℕ) : Type 0 where

@@ -1,43 +1,25 @@
-use Rattle.tables.specs.Outcome.{Outcome}
-use Rattle.std.proofs.Common.{Ok}
+use Rattle.std.proofs.Common.{sym, ◌∙◌, rules}
 use Rattle.tables.proofs.Passed.{seen}
-use mathlib.Core.Path.{◌≡◌, sym, ◌∙◌}
-use Rattle.tables.specs.Tables.{Tables, tables_of}
-use Rattle.loader.proofs.Loaded.{Loaded, loaded}
-use Rattle.type_check.specs.Check.{check_of}
+use Rattle.loader.proofs.Loaded.{loaded}
 use Rattle.type_check.proofs.CheckLaws.{loaded_frames}
-use Rattle.session_open.specs.Open.{call_tables, call_look, calls_look, program_look, program_verdict}
+use Rattle.session_open.specs.Open.{call_look, calls_look, program_look, program_verdict}
 use Rattle.session_open.proofs.OpenLaws.{loaded_calls}
 use Rattle.session_open.proofs.verdict.program_verdict.Goals as goal
 
-pub check_program-verdict-requires : goal.check_program-verdict-requires
-check_program-verdict-requires c =
-    let tablesAt : Tables = tables_of c.args.regions.now c.args.externs.now c.args.parameters.now c.args.nodes.now c.args.arguments.now c.args.instructions.now in
-    let tables : Loaded tablesAt = loaded _ c.requires in
-    loaded_frames tables
+pub check_program-requires : goal.check_program-requires
+check_program-requires c = loaded_frames (loaded _ c.requires)
 
-pub returns-in-Err : goal.returns-in-Err
+pub returns-in_err-check_program : goal.returns-in_err-check_program
 unfolding program_verdict
-returns-in-Err c = rw (sym c.check_program-verdict.ensures ∙ c.in-Err.is)
+returns-in_err-check_program c = rw (seen c.check_program.ensures c.in_err-check_program.was) (search rules)
 
-pub program_look-look-requires : goal.program_look-look-requires
-program_look-look-requires c =
-    let tablesAt : Tables = tables_of c.args.regions.now c.args.externs.now c.args.parameters.now c.args.nodes.now c.args.arguments.now c.args.instructions.now in
-    let tables : Loaded tablesAt = loaded _ c.requires in
-    loaded_calls tables
+pub program_look-requires : goal.program_look-requires
+program_look-requires c = loaded_calls (loaded _ c.requires)
 
-pub returns-in-Err : goal.returns-in-Err
+pub returns-in_err-program_look : goal.returns-in_err-program_look
 unfolding program_verdict program_look calls_look call_look
-returns-in-Err c =
-    let calls_at : Tables = call_tables c.args.regions.now c.args.externs.now c.args.parameters.now c.args.arguments.now c.args.instructions.now in
-    let well_typed : check_of c.args.regions.now c.args.nodes.now c.args.instructions.now ≡ (Ok tt) = sym c.check_program-verdict.ensures ∙ c.in_default.is in
-    let rows-looked : (r : Outcome (Unit {0})) → c.program_look-look.result ≡ r → program_look calls_at ≡ r = λ r e. seen c.program_look-look.ensures e in
-    rw (well_typed, rows-looked _ c.in-Err.is)
+returns-in_err-program_look c = rw (seen c.check_program.ensures c.in_ok-check_program.was, seen c.program_look.ensures c.in_err-program_look.was) (search rules)
 
-pub returns-in-Ok : goal.returns-in-Ok
+pub returns : goal.returns
 unfolding program_verdict program_look calls_look call_look
-returns-in-Ok c =
-    let calls_at : Tables = call_tables c.args.regions.now c.args.externs.now c.args.parameters.now c.args.arguments.now c.args.instructions.now in
-    let well_typed : check_of c.args.regions.now c.args.nodes.now c.args.instructions.now ≡ (Ok tt) = sym c.check_program-verdict.ensures ∙ c.in_default.is in
-    let rows-looked : (r : Outcome (Unit {0})) → c.program_look-look.result ≡ r → program_look calls_at ≡ r = λ r e. seen c.program_look-look.ensures e in
-    rw (well_typed, rows-looked _ c.in-Ok.is)
+returns c = rw (seen c.check_program.ensures c.in_ok-check_program.was, seen c.program_look.ensures c.in_ok-program_look.was)
