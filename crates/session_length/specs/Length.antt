@@ -10,8 +10,7 @@ use Rattle.session_length.specs.Entries.{journal_length}
 -- by what open finds
 abbrev pub length_answer : List ℕ → Result (Unit {0}) ProgramError → Result ℕ ProgramError
 length_answer instructions (Ok _) = Ok (journal_length instructions)
-length_answer instructions (Err (P.Refused number)) = Err (P.Refused number)
-length_answer instructions (Err (P.Type e)) = Err (P.Type e)
+length_answer instructions (Err e) = Err e
 
 -- open's looks without the buffers: 1, 2, 3, 10, 5, 9, 20, 21, 22, then 6, 7, 8 by row
 unfoldable pub length_tables : Tables → Result ℕ ProgramError

@@ -6,7 +6,7 @@ ghost use Rattle.session_length.specs.Length.{length_tables};
 use crate::entries::journal_entries;
 use session::prepare::tables_look;
 use session_open::verdict::program_verdict;
-use type_rules::error::{ProgramError, TypeError};
+use type_rules::error::ProgramError;
 
 pub fn journal_length(
     regions: &[u64],
@@ -18,14 +18,7 @@ pub fn journal_length(
 ) -> Result<usize, ProgramError>
     ensures { result ≡ length_tables (tables_of regions.now externs.now parameters.now nodes.now arguments.now instructions.now) }
 {
-    let looked = tables_look(regions, externs, parameters, nodes, arguments, instructions);
-    if let Err(number) = looked {
-        return Err(ProgramError::Refused(number));
-    }
-    let verdict = program_verdict(regions, externs, parameters, nodes, arguments, instructions);
-    match verdict {
-        Err(ProgramError::Refused(number)) => Err(ProgramError::Refused(number)),
-        Err(ProgramError::Type(error)) => Err(ProgramError::Type(error)),
-        Ok(()) => Ok(journal_entries(instructions)),
-    }
+    tables_look(regions, externs, parameters, nodes, arguments, instructions)?;
+    program_verdict(regions, externs, parameters, nodes, arguments, instructions)?;
+    Ok(journal_entries(instructions))
 }
