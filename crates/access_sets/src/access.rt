@@ -26,7 +26,7 @@ pub enum AccessAnswer {
     Sets(usize, usize),
 }
 
-// Puts a name at its place among the first `count`; those from there on go up by one.
+// Puts a name at its place among the first `count`; those from there on go up by one. A loop, since `copy_within` would call a `memmove`, which the library does without.
 fn put_at(names: &mut [u64], count: usize, place: usize, name: u64)
     requires { (place ≤ count) × (count < length names.old) }
     ensures { names.new ≡ sets names.old place (name ∷ drop place (take count names.old)) }

@@ -2,7 +2,7 @@
 use Rattle.std.specs.Prelude.{ℕ, zero, suc, ◌+◌, ◌*◌, ◌/◌, ◌%◌, Bool, true, false, not, ◌&&◌, List, [], ◌∷◌, get_or, length, eqb, ltb, leb}
 use Rattle.words.specs.Kind.{fits_kind}
 use Rattle.tables.specs.Refusal.{index_past_length, unfit_reply}
-use Rattle.tables.specs.Outcome.{Outcome, ok, refuse, ◌>>=◌, ◌>>◌, need}
+use Rattle.tables.specs.Outcome.{Outcome, ok, ◌>>=◌, ◌>>◌, need}
 use Rattle.tables.specs.First.{every}
 use Rattle.tables.specs.Lookup.{lookup_region}
 use Rattle.tables.specs.declared.lookup.Found.{Found}
