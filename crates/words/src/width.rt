@@ -90,7 +90,7 @@ pub enum Shifted {
 }
 
 // The shifted word, unless the count is negative.
-fn answer(count: u64, word: u64) -> Shifted
+fn unless_negative(count: u64, word: u64) -> Shifted
     ensures { result ≡ shifted (λ _. word) count }
 {
     if integer::is_negative(count) {
@@ -102,17 +102,17 @@ fn answer(count: u64, word: u64) -> Shifted
 pub fn shl(kind: u64, v: u64, count: u64) -> Shifted
     ensures { result ≡ shift_left (width_of kind) v count }
 {
-    answer(count, shl_at(kind, v, count))
+    unless_negative(count, shl_at(kind, v, count))
 }
 
 pub fn shr(kind: u64, v: u64, count: u64) -> Shifted
     ensures { result ≡ shift_right (width_of kind) v count }
 {
-    answer(count, shr_at(kind, v, count))
+    unless_negative(count, shr_at(kind, v, count))
 }
 
 pub fn ashr(kind: u64, v: u64, count: u64) -> Shifted
     ensures { result ≡ shift_right_arithmetic (width_of kind) v count }
 {
-    answer(count, ashr_at(kind, v, count))
+    unless_negative(count, ashr_at(kind, v, count))
 }
