@@ -16,14 +16,7 @@ use tables::rows::Instruction;
 use tables::{operator, source};
 use words::kind::{BIT, INTEGER, INTEGER_LITERAL, OCTET, REAL, REAL_LITERAL};
 
-// The kinds of a row's first and second operand, or the error of the first that is undeclared.
-#[derive(Drop)]
-pub enum Pair {
-    Error(Verdict),
-    Kinds(u64, u64),
-}
-
-// How a source goes with the kind of another operand: a misfit comes with its code, an undeclared source as its error.
+// How a source goes with the kind of another operand: a misfit comes with its code, an undeclared source as its error. Three answers, each by its name; a `Result` of an `Option` would say no more.
 #[derive(Drop)]
 pub enum Fit {
     Fits,
@@ -32,6 +25,7 @@ pub enum Fit {
 }
 
 // A declared region's kind. The loader leaves no word above REAL there.
+#[tactic(auto, unfolding(crate::specs::Codes::kind_code))]
 pub fn kind_at(regions: &[u64], region: usize) -> u64
     requires { region < region_rows regions.now }
     ensures { result ≡ kind_code (region_kind regions.now region) }
@@ -44,6 +38,7 @@ pub fn kind_at(regions: &[u64], region: usize) -> u64
 }
 
 // An arithmetic source that is a reference.
+#[tactic(auto, unfolding(crate::specs::Rule::arithmetic_source, crate::specs::Codes::code_of, crate::specs::Codes::kind_code))]
 fn arithmetic_source(regions: &[u64], row: u64, destination: u64, name: u64) -> Verdict
     ensures { result ≡ verdict_at row (arithmetic_source destination (code_of regions.now name)) }
 {
@@ -63,6 +58,7 @@ fn arithmetic_source(regions: &[u64], row: u64, destination: u64, name: u64) -> 
     }
 }
 
+#[tactic(auto, unfolding(crate::specs::Rule::arithmetic_rule, crate::specs::Codes::code_of, crate::specs::Codes::kind_code, crate::specs::Codes::operand_code, tables::specs::Cases::case_of))]
 pub fn type_check_arithmetic(regions: &[u64], row: u64, x: Instruction) -> Verdict
     ensures { result ≡ verdict_at row (arithmetic_rule (first_code regions.now x) (operand_code regions.now x)) }
 {
@@ -88,6 +84,7 @@ pub fn type_check_arithmetic(regions: &[u64], row: u64, x: Instruction) -> Verdi
     }
 }
 
+#[tactic(auto, unfolding(crate::specs::Looks::fit_of, crate::specs::Codes::code_of, crate::specs::Codes::kind_code))]
 fn reference_fit(regions: &[u64], row: u64, kind: u64, name: u64) -> Fit
     ensures { result ≡ fit_of row kind (code_of regions.now name) }
 {
@@ -102,6 +99,7 @@ fn reference_fit(regions: &[u64], row: u64, kind: u64, name: u64) -> Fit
     }
 }
 
+#[tactic(auto, unfolding(crate::specs::Looks::fit_of, crate::specs::Codes::operand_code, tables::specs::Cases::case_of))]
 fn source_fit(regions: &[u64], row: u64, kind: u64, x: Instruction) -> Fit
     ensures { result ≡ fit_of row kind (operand_code regions.now x) }
 {
@@ -120,6 +118,7 @@ fn source_fit(regions: &[u64], row: u64, kind: u64, x: Instruction) -> Fit
 }
 
 // MOVE's source, a comparison's rhs: against the kind of the operand at `spot`.
+#[tactic(auto, unfolding(crate::specs::Rule::source_rule, crate::specs::Looks::fit_of))]
 fn check_source(regions: &[u64], row: u64, spot: u64, kind: u64, x: Instruction) -> Verdict
     ensures { result ≡ verdict_at row (source_rule spot kind (operand_code regions.now x)) }
 {
@@ -130,46 +129,39 @@ fn check_source(regions: &[u64], row: u64, spot: u64, kind: u64, x: Instruction)
     }
 }
 
-fn pair_of(regions: &[u64], row: u64, x: Instruction) -> Pair
+// The kinds of a row's first and second operand, or the error of the first that is undeclared.
+#[tactic(auto, unfolding(crate::specs::Looks::pair_of, crate::specs::Codes::code_of, crate::specs::Codes::kind_code))]
+fn pair_of(regions: &[u64], row: u64, x: Instruction) -> Result<(u64, u64), Verdict>
     ensures { result ≡ pair_of row (first_code regions.now x) (second_code regions.now x) }
 {
     let Found::At(first) = lookup_region(regions, x.first_name) else {
-        return Pair::Error(undefined_memory_reference(row, FIRST));
+        return Err(undefined_memory_reference(row, FIRST));
     };
     let Found::At(second) = lookup_region(regions, x.second_name) else {
-        return Pair::Error(undefined_memory_reference(row, SECOND));
+        return Err(undefined_memory_reference(row, SECOND));
     };
-    Pair::Kinds(kind_at(regions, first), kind_at(regions, second))
+    Ok((kind_at(regions, first), kind_at(regions, second)))
 }
 
+#[tactic(auto, unfolding(crate::specs::Rule::comparison_rule, crate::specs::Looks::pair_of))]
 pub fn type_check_comparison(regions: &[u64], row: u64, x: Instruction) -> Verdict
     ensures { result ≡ verdict_at row (comparison_rule (first_code regions.now x) (second_code regions.now x) (operand_code regions.now x)) }
 {
     match pair_of(regions, row, x) {
-        Pair::Error(error) => error,
-        Pair::Kinds(destination, lhs) => match destination {
+        Err(error) => error,
+        Ok((destination, lhs)) => match destination {
             BIT => check_source(regions, row, SECOND, lhs, x),
             _ => operator_operand_mismatch(row, FIRST, destination, BIT_ONLY),
         },
     }
 }
 
-// A source of binary logic. The loader lets no real literal through.
-fn logic_source(regions: &[u64], row: u64, x: Instruction) -> Verdict
-    ensures { result ≡ verdict_at row (logic_source (operand_code regions.now x)) }
+// A source of binary logic that is a reference.
+#[tactic(auto, unfolding(crate::specs::Rule::logic_source, crate::specs::Codes::code_of, crate::specs::Codes::kind_code))]
+fn logic_reference(regions: &[u64], row: u64, name: u64) -> Verdict
+    ensures { result ≡ verdict_at row (logic_source (code_of regions.now name)) }
 {
-    let form = x.source_form;
-    match form {
-        source::INTEGER_LITERAL => return Verdict::Accepted,
-        source::REAL_LITERAL => return operator_operand_mismatch(
-            row,
-            SOURCE,
-            REAL_LITERAL,
-            INTEGRAL,
-        ),
-        _ => {}
-    }
-    let Found::At(region) = lookup_region(regions, x.source_first) else {
+    let Found::At(region) = lookup_region(regions, name) else {
         return undefined_memory_reference(row, SOURCE);
     };
     let source = kind_at(regions, region);
@@ -179,6 +171,20 @@ fn logic_source(regions: &[u64], row: u64, x: Instruction) -> Verdict
     }
 }
 
+// A source of binary logic. The loader lets no real literal through.
+#[tactic(auto, unfolding(crate::specs::Rule::logic_source, crate::specs::Codes::operand_code, tables::specs::Cases::case_of))]
+fn logic_source(regions: &[u64], row: u64, x: Instruction) -> Verdict
+    ensures { result ≡ verdict_at row (logic_source (operand_code regions.now x)) }
+{
+    let form = x.source_form;
+    match form {
+        source::INTEGER_LITERAL => Verdict::Accepted,
+        source::REAL_LITERAL => operator_operand_mismatch(row, SOURCE, REAL_LITERAL, INTEGRAL),
+        _ => logic_reference(regions, row, x.source_first),
+    }
+}
+
+#[tactic(auto, unfolding(crate::specs::Rule::logic_rule, crate::specs::Codes::code_of, crate::specs::Codes::kind_code))]
 pub fn type_check_binary_logic(regions: &[u64], row: u64, x: Instruction) -> Verdict
     ensures { result ≡ verdict_at row (logic_rule (first_code regions.now x) (operand_code regions.now x)) }
 {
@@ -193,6 +199,7 @@ pub fn type_check_binary_logic(regions: &[u64], row: u64, x: Instruction) -> Ver
 }
 
 // NEG, else NOT.
+#[tactic(auto, unfolding(crate::specs::Rule::unary_rule, crate::specs::Codes::code_of, crate::specs::Codes::kind_code))]
 pub fn type_check_unary_logic(regions: &[u64], row: u64, x: Instruction) -> Verdict
     ensures { result ≡ verdict_at row (unary_rule x.operator (first_code regions.now x)) }
 {
@@ -213,6 +220,7 @@ pub fn type_check_unary_logic(regions: &[u64], row: u64, x: Instruction) -> Verd
     }
 }
 
+#[tactic(auto, unfolding(crate::specs::Rule::move_rule, crate::specs::Codes::code_of, crate::specs::Codes::kind_code))]
 pub fn type_check_move(regions: &[u64], row: u64, x: Instruction) -> Verdict
     ensures { result ≡ verdict_at row (move_rule (first_code regions.now x) (operand_code regions.now x)) }
 {
@@ -223,12 +231,13 @@ pub fn type_check_move(regions: &[u64], row: u64, x: Instruction) -> Verdict
     check_source(regions, row, FIRST, destination, x)
 }
 
+#[tactic(auto, unfolding(crate::specs::Rule::exchange_rule, crate::specs::Looks::pair_of))]
 pub fn type_check_exchange(regions: &[u64], row: u64, x: Instruction) -> Verdict
     ensures { result ≡ verdict_at row (exchange_rule (first_code regions.now x) (second_code regions.now x)) }
 {
     match pair_of(regions, row, x) {
-        Pair::Error(error) => error,
-        Pair::Kinds(left, right) => {
+        Err(error) => error,
+        Ok((left, right)) => {
             if left == right {
                 Verdict::Accepted
             } else {
@@ -239,6 +248,7 @@ pub fn type_check_exchange(regions: &[u64], row: u64, x: Instruction) -> Verdict
 }
 
 // A LOAD's offset, and then the kinds of its destination and its source.
+#[tactic(auto, unfolding(crate::specs::Rule::load_offset, crate::specs::Codes::code_of, crate::specs::Codes::kind_code))]
 fn load_offset(regions: &[u64], row: u64, destination: u64, source: u64, name: u64) -> Verdict
     ensures { result ≡ verdict_at row (load_offset destination source (code_of regions.now name)) }
 {
@@ -258,18 +268,20 @@ fn load_offset(regions: &[u64], row: u64, destination: u64, source: u64, name: u
     }
 }
 
+#[tactic(auto, unfolding(crate::specs::Rule::load_rule, crate::specs::Looks::pair_of))]
 pub fn type_check_load(regions: &[u64], row: u64, x: Instruction) -> Verdict
     ensures { result ≡ verdict_at row (load_rule (first_code regions.now x) (second_code regions.now x) (reference_code regions.now x)) }
 {
     match pair_of(regions, row, x) {
-        Pair::Error(error) => error,
-        Pair::Kinds(destination, source) => {
+        Err(error) => error,
+        Ok((destination, source)) => {
             load_offset(regions, row, destination, source, x.source_first)
         }
     }
 }
 
 // A STORE's source against the kind of its destination: the source is the error's `dst`.
+#[tactic(auto, unfolding(crate::specs::Rule::store_source, crate::specs::Looks::fit_of))]
 fn store_source(regions: &[u64], row: u64, destination: u64, x: Instruction) -> Verdict
     ensures { result ≡ verdict_at row (store_source destination (operand_code regions.now x)) }
 {
@@ -280,12 +292,13 @@ fn store_source(regions: &[u64], row: u64, destination: u64, x: Instruction) -> 
     }
 }
 
+#[tactic(auto, unfolding(crate::specs::Rule::store_rule, crate::specs::Looks::pair_of))]
 pub fn type_check_store(regions: &[u64], row: u64, x: Instruction) -> Verdict
     ensures { result ≡ verdict_at row (store_rule (first_code regions.now x) (second_code regions.now x) (operand_code regions.now x)) }
 {
     match pair_of(regions, row, x) {
-        Pair::Error(error) => error,
-        Pair::Kinds(destination, offset) => match offset {
+        Err(error) => error,
+        Ok((destination, offset)) => match offset {
             INTEGER => store_source(regions, row, destination, x),
             _ => operator_operand_mismatch(row, SECOND, offset, INTEGRAL),
         },
