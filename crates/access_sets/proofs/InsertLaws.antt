@@ -1,18 +1,16 @@
 -- Laws of insertion into a lent list: one name, then the names of all arguments. Assumes nothing.
 use Prim.Native.Nat.{ℕ, zero, suc, ◌+◌, ◌-◌, ◌<◌, ◌≤◌}
 use mathlib.Core.Path.{◌≡◌, refl, sym, ap, ◌∙◌}
-use mathlib.Core.Bool.{Bool, true, false, cond, ◌&&◌}
+use mathlib.Core.Bool.{Bool, true, false, cond}
 use mathlib.Core.List.{List, [], ◌∷◌, ◌++◌, append-nil, append_assoc}
 use native.Mathlib.Numerals.{add-one}
 use native.Mathlib.Omega.{arith}
-use borrow.Author.Tests.{eq-eqb, lt-ltb, eqb-true, ltb-true}
 use lib.Dec.{eqb, ltb}
 use lib.ListN.{length, get_or, set, take, drop, length-append, length-drop, take-append-drop, drop_of_length-le}
-use lib.Seq.{sets, sets-eq, length-sets, set_comm, take-suc, take-add, take-take, take-set-le, take-append_seam, drop-drop, drop-append-add, drop-append-le, get_or-take, length-take-le}
-use Rattle.tables.proofs.Passed.{both}
+use lib.Seq.{sets, sets-eq, length-sets, set_comm, take-suc, take-add, take-take, take-set-le, take-append_seam, drop-drop, drop-append-add, drop-append-le, length-take-le}
 use Rattle.extern_call.specs.Gather.{gather}
 use Rattle.access_sets.specs.Set.{inserted, insert_all, Ascending}
-use Rattle.access_sets.specs.Inner.{Listed, below}
+use Rattle.access_sets.specs.Inner.{Listed}
 use Rattle.extern_call.proofs.GatherLaws.{sets-append}
 use Rattle.access_sets.proofs.SetLaws.{all-ascending}
 use Rattle.access_sets.proofs.PlaceLaws.{inserted-there, inserted_new}
@@ -37,7 +35,7 @@ sets_last (x ∷ a) l i v =
 
 -- the names from `place` below i have yet to go up by one, and the name to its place: a turn of the loop, and its end
 module _ (now : List ℕ) (place name i : ℕ) (room : i < length now) where
-  pub moving_turn : place < i → sets (set now i (get_or now (i - 1) 0)) place (name ∷ drop place (take (i - 1) (set now i (get_or now (i - 1) 0))))
+  pub moving_turn : place < i → sets (set now (i - 1 + 1) (get_or now (i - 1) 0)) place (name ∷ drop place (take (i - 1) (set now (i - 1 + 1) (get_or now (i - 1) 0))))
       ≡ sets now place (name ∷ drop place (take i now))
   moving_turn h =
       let v = get_or now (i - 1) 0 in
@@ -48,7 +46,8 @@ module _ (now : List ℕ) (place name i : ℕ) (room : i < length now) where
       let d : drop place (take i now) ≡ rest ++ v ∷ [] = rw t (drop-append-le place (take (i - 1) now) (v ∷ []) (omega arith)) in
       let k : place + suc (length rest) ≡ i = simp (length-drop, n) (omega arith) in
       let z : sets now place (name ∷ rest ++ v ∷ []) ≡ sets (set now i v) place (name ∷ rest) = sets_last (name ∷ rest) now place v ∙ rw k in
-      rw (take-set-le (i - 1) now i v (omega arith), d) (sym z)
+      let u : i - 1 + 1 ≡ i = omega arith in
+      rw (u, take-set-le (i - 1) now i v (omega arith), d) (sym z)
 
   pub moving_end : i ≤ place → sets now place (name ∷ drop place (take i now)) ≡ set now place name
   moving_end h =
@@ -56,34 +55,24 @@ module _ (now : List ℕ) (place name i : ℕ) (room : i < length now) where
       let k : length (take i now) ≤ place = omega arith in
       rw (drop_of_length-le (take i now) k)
 
--- the name at its place, tested as the code does
-module _ (l : List ℕ) (count name place : ℕ) (room : count < length l) (at : (place ≤ count) × (place ≡ below name (take count l))) where
-  pub insert_there : (ltb place count && eqb (get_or l place 0) name) ≡ true → Listed (inserted name (take count l)) l l count
-  insert_there e =
-      let t = both (ltb place count) (eqb (get_or l place 0) name) e in
-      let h : place < count = ltb-true place count t.0 in
-      let n : length (take count l) ≡ count = length-take-le count l (omega arith) in
-      let g : get_or (take count l) place 0 ≡ name = get_or-take count l place 0 h ∙ eqb-true (get_or l place 0) name t.1 in
-      let s : inserted name (take count l) ≡ take count l = inserted-there name (take count l) (omega arith) (rw at.1 at g) in
-      rw s (same_listed l count room)
+-- a name as `binary_search` finds it among the first names
+module _ (l : List ℕ) (count name place : ℕ) (room : count < length l) where
+  pub insert_there : Ascending (take count l) → (place < length (take count l)) × (get_or (take count l) place 0 ≡ name) → Listed (inserted name (take count l)) l l count
+  insert_there a h = rw (inserted-there name (take count l) place a h.0 h.1) (same_listed l count room)
 
-  pub insert_new : (now : List ℕ) → Ascending (take count l) → (ltb place count && eqb (get_or l place 0) name) ≡ false
+  pub insert_new : (now : List ℕ)
+      → (place ≤ length (take count l)) × ((k : ℕ) → k < place → get_or (take count l) k 0 < name) × ((k : ℕ) → place ≤ k → k < length (take count l) → name < get_or (take count l) k 0)
       → now ≡ sets l place (name ∷ drop place (take count l)) → Listed (inserted name (take count l)) l now (count + 1)
-  insert_new now a f e =
+  insert_new now h e =
       let m = take count l in
       let n : length m ≡ count = length-take-le count l (omega arith) in
-      let g : place < count → get_or l place 0 ≡ name → ⊥ =
-      λ k q.
-      let w = rw (lt-ltb place count k, eq-eqb (get_or l place 0) name q) at f in
-      let z : ◌≡◌ {A = ℕ} 0 1 = cc in omega arith in
-      let s : inserted name m ≡ take place m ++ name ∷ drop place m =
-      rw at.1 (inserted_new name m a (λ k q. g (omega arith) (sym (get_or-take count l place 0 (omega arith)) ∙ rw at.1 q))) in
-      let t : take place m ≡ take place l = take-take place count l at.0 in
-      let k : length (take place l) ≡ place = length-take-le place l (omega arith) in
+      let s : inserted name m ≡ take place m ++ name ∷ drop place m = inserted_new name m place h.0 h.1 h.2 in
+      let t : take place m ≡ take place l = take-take place count l (omega (arith, h.0)) in
+      let k : length (take place l) ≡ place = length-take-le place l (omega (arith, h.0)) in
       let z : 0 + place ≡ place = omega arith in
       let u : sets l 0 (take place l ++ name ∷ drop place m) ≡ sets l place (name ∷ drop place m) =
-      sets-append (take place l) (name ∷ drop place m) l 0 ∙ rw (sets_same l 0 place (omega arith), k, z) in
-      record { count = rw (s, t) (simp (length-append, k, length-drop, n) (omega arith)); words = rw (s, t, u) e }
+      sets-append (take place l) (name ∷ drop place m) l 0 ∙ rw (sets_same l 0 place (omega (arith, h.0)), k, z) in
+      record { count = rw (s, t) (simp (length-append, k, length-drop, n) (omega (arith, h.0))); words = rw (s, t, u) e }
 
 take-sets : (s l : List ℕ) → length s ≤ length l → take (length s) (sets l 0 s) ≡ s
 take-sets s l h = rw (sets-eq s l 0 (omega arith)) (take-append_seam s (drop (0 + length s) l))

@@ -1,13 +1,8 @@
 -- What inner functions keep of a lent list while they put names into it. No public contract mentions it.
-use Rattle.std.specs.Prelude.{ℕ, suc, ◌≡◌, cond, List, [], ◌∷◌, ltb, length}
+use Rattle.std.specs.Prelude.{ℕ, ◌≡◌, List, length}
 use Rattle.std.proofs.lemmas.List.Edits.{sets}
 
 -- the names stand at the front of a lent list, n of them; nothing else has changed
 pub record Listed (names entry exit : List ℕ) (n : ℕ) : Type 0 where
   pub count : n ≡ length names
   pub words : exit ≡ sets entry 0 names
-
--- how many names are below x, up to the first that is not: x's place among ascending names
-unfoldable pub below : ℕ → List ℕ → ℕ
-below x [] = 0
-below x (y ∷ l) = cond (ltb y x) (suc (below x l)) 0

@@ -5,7 +5,7 @@ ghost use Rattle.std.proofs.lemmas.List.Edits.{sets};
 ghost use Rattle.tables.specs.Rows.{parameter_rows};
 ghost use Rattle.extern_call.specs.Call.{expected_count, Ranges, Paired, CallRanges};
 ghost use Rattle.access_sets.specs.Set.{inserted, insert_all, Ascending};
-ghost use Rattle.access_sets.specs.Inner.{Listed, below};
+ghost use Rattle.access_sets.specs.Inner.{Listed};
 ghost use Rattle.access_sets.specs.Access.{names_in, written_at, listed_at, names_at, paired_count, access_of, accessing, access_call};
 
 use call_argument::argument::{UnresolvedCallArgument, decode};
@@ -20,33 +20,13 @@ pub enum Access {
     Write,
 }
 
-// The place of a name among the first `count`, which ascend: how many are below it.
-fn place_among(names: &[u64], count: usize, name: u64) -> usize
-    requires { (count ≤ length names.now) × Ascending (take count names.now) }
-    ensures { (result ≤ count) × (result ≡ below name (take count names.now)) }
-{
-    let mut low = 0;
-    let mut high = count;
-    while low < high {
-        let middle = low + (high - low) / 2;
-        if names[middle] < name {
-            low = middle + 1;
-        } else {
-            high = middle;
-        }
-    }
-    low
-}
-
-// Puts a name at its place among the first `count`; those from there on go up by one.
+// Puts a name at its place among the first `count`; those from there on go up by one. A loop, since `copy_within` would call a `memmove`, which the library does without.
 fn put_at(names: &mut [u64], count: usize, place: usize, name: u64)
     requires { (place ≤ count) × (count < length names.old) }
     ensures { names.new ≡ sets names.old place (name ∷ drop place (take count names.old)) }
 {
-    let mut i = count;
-    while place < i {
-        names[i] = names[i - 1];
-        i -= 1;
+    for i in (place..count).rev() {
+        names[i + 1] = names[i];
     }
     names[place] = name;
 }
@@ -56,12 +36,13 @@ fn insert(names: &mut [u64], count: usize, name: u64) -> usize
     requires { (count < length names.old) × Ascending (take count names.old) }
     ensures { Listed (inserted name (take count names.old)) names.old names.new result }
 {
-    let place = place_among(names, count, name);
-    if (place < count) & (names[place] == name) {
-        return count;
+    match names[..count].binary_search(&name) {
+        Ok(_) => count,
+        Err(place) => {
+            put_at(names, count, place, name);
+            count + 1
+        }
     }
-    put_at(names, count, place, name);
-    count + 1
 }
 
 // The name of an identifier or a reference. The new count.
@@ -78,6 +59,7 @@ fn insert_name(names: &mut [u64], count: usize, row: Argument) -> usize
 }
 
 // Whether argument i is the return's or a mutable parameter's.
+#[tactic(auto, unfolding(crate::specs::Access::written_at))]
 fn is_written(parameters: &[u64], call: ExternCall, i: usize) -> bool
     requires { (call.first_parameter + call.parameter_count ≤ parameter_rows parameters.now) × (i < expected_count call) }
     ensures { result ≡ written_at parameters.now call i }
@@ -124,16 +106,12 @@ fn visit(
 }
 
 // How many arguments are the return's or a parameter's.
+#[tactic(auto, unfolding(crate::specs::Access::paired_count))]
 fn paired_count(call: ExternCall) -> usize
     requires { call.parameter_count + 1 < 2 ^ 64 }
     ensures { result ≡ paired_count call }
 {
-    let count = call.argument_count;
-    let wanted = expected_count(call);
-    if count < wanted {
-        return count;
-    }
-    wanted
+    call.argument_count.min(expected_count(call))
 }
 
 // The names of one set, ascending; how many.
@@ -147,12 +125,9 @@ fn collect(
     requires { Ranges parameters.now arguments.now call × (call.argument_count ≤ length names.old) }
     ensures { Listed (access_of parameters.now arguments.now call access) names.old names.new result }
 {
-    let n = paired_count(call);
     let mut count = 0;
-    let mut i = 0;
-    while i < n {
+    for i in 0..paired_count(call) {
         count = visit(parameters, arguments, call, i, access, names, count);
-        i += 1;
     }
     count
 }

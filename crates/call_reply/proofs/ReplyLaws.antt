@@ -1,35 +1,32 @@
 -- What a judged reply says: each of its rows hits a cell that is there, and gives one write. Assumes nothing.
 use Rattle.call_argument.specs.declared.error.CallArgumentError.{CallArgumentError}
+use Rattle.call_argument.specs.declared.resolved.ResolvedCallArgument.{ResolvedCallArgument}
 use Rattle.std.proofs.Common.{Result, Ok, Err}
 use Prim.Native.Nat.{ℕ, zero, suc, ◌+◌, ◌<◌}
-use mathlib.Core.Bool.{Bool, true, false, not, ◌&&◌}
+use mathlib.Core.Bool.{Bool, true, false, not}
 use mathlib.Core.List.{List}
-use mathlib.Core.Path.{◌≡◌, refl, sym, ap, ◌∙◌}
+use mathlib.Core.Path.{◌≡◌, refl, ap}
 use native.Mathlib.Omega.{arith}
 use borrow.Author.Tests.{ltb-true}
 use lib.ListN.{length}
 use lib.Dec.{eqb, ltb}
-use Rattle.words.specs.Kind.{fits_kind}
 use Rattle.tables.specs.declared.refusal.Refusal.{Refusal}
-use Rattle.tables.specs.First.{every}
-use Rattle.tables.specs.Outcome.{Outcome, ◌>>=◌, ◌>>◌, need}
+use Rattle.tables.specs.Outcome.{◌>>◌, need}
 use Rattle.tables.specs.Rows.{region_length}
 use Rattle.operands.specs.Reach.{Laid}
-use Rattle.tables.specs.Lookup.{lookup_region}
 use Rattle.tables.specs.declared.rows.Instruction.{Instruction}
 use Rattle.tables.proofs.FirstLaws.{every-row}
 use Rattle.tables.proofs.Passed.{both, passed}
-use Rattle.extern_call.specs.Call.{resolution_at, resolves_call, CallRanges, Counted, Paired}
+use Rattle.extern_call.specs.Call.{resolution_at, resolves_call, CallRanges}
 use Rattle.extern_call.specs.declared.call.ExternCall.{ExternCall}
-use Rattle.call_argument.specs.declared.resolved.ResolvedCallArgument.{ResolvedCallArgument}
 use Rattle.call_argument.specs.declared.resolved.ResolvedCallArgument.TheVariants.{Vector, MemoryReference, Immediate}
 use Rattle.extern_call.proofs.CallLaws.{counted-paired}
-use Rattle.extern_call.proofs.ResolvedLaws.{Facts, resolved_facts}
+use Rattle.extern_call.proofs.ResolvedLaws.{resolved_facts}
 use Rattle.extern_call.proofs.ResolvesLaws.{Resolvable, resolves_ok, resolvable_counted}
-use Rattle.call_reply.specs.Call.{reply_rows, reply_at, reply_length_fits, scalar_fits, index_found, fits_row, hits, of_resolved, scalars_fit, reply_row_fits, reply_fits, reply_writes_from, reply_writes, call_ready, call_judged}
-use Rattle.call_reply.specs.Reach.{FoundWithin, CellWithin, HitWithin, Hit, Replied}
+use Rattle.call_reply.specs.Call.{reply_rows, reply_at, reply_length_fits, scalar_fits, fits_row, hits, of_resolved, scalars_fit, reply_row_fits, reply_fits, reply_writes_from, reply_writes, call_ready, call_judged}
+use Rattle.call_reply.specs.Reach.{HitWithin, Hit, Replied}
 use Rattle.call_reply.specs.declared.reply.Reply.{Reply}
-use Rattle.operands.proofs.Binds.{Bound, bound}
+use Rattle.operands.proofs.Binds.{bound}
 use Rattle.operands.proofs.AddressLaws.{index_below}
 
 -- ---- a CALL whose reply was judged

@@ -28,26 +28,14 @@ fn scalar_fits(regions: &[u64], a: ResolvedCallArgument) -> bool
     ensures { result ≡ scalar_fits regions.now a }
 {
     match a {
-        ResolvedCallArgument::Vector {
-            name: _,
-            vector: _,
-            mutable: _,
-        } => true,
-        ResolvedCallArgument::MemoryReference {
-            name,
-            index,
-            kind: _,
-            mutable: _,
-        } => named_index_fits(regions, name, index),
-        ResolvedCallArgument::Immediate {
-            real: _,
-            imaginary: _,
-            kind: _,
-        } => true,
+        ResolvedCallArgument::MemoryReference { name, index, .. } => {
+            named_index_fits(regions, name, index)
+        }
+        ResolvedCallArgument::Vector { .. } | ResolvedCallArgument::Immediate { .. } => true,
     }
 }
 
-// Argument i, where it is a scalar reference.
+// Argument i, where it is a scalar reference. `hits_at` and `cell_at` match alike: one function over a closure would ask more of its callers than it spares, a clause on what the closure is asked and one on what it answers.
 fn scalar_fits_at(
     regions: &[u64],
     parameters: &[u64],
@@ -70,15 +58,7 @@ fn scalars_fit(regions: &[u64], parameters: &[u64], arguments: &[u64], call: Ext
     requires { Counted parameters.now arguments.now call }
     ensures { result ≡ scalars_fit regions.now parameters.now arguments.now call }
 {
-    let n = call.argument_count;
-    let mut i = 0;
-    while i < n {
-        if !scalar_fits_at(regions, parameters, arguments, call, i) {
-            return false;
-        }
-        i += 1;
-    }
-    true
+    (0..call.argument_count).all(|i| scalar_fits_at(regions, parameters, arguments, call, i))
 }
 
 // Whether a reply's row hits argument i.
@@ -100,6 +80,7 @@ fn hits_at(
     }
 }
 
+#[tactic(auto, unfolding(crate::specs::Call::reply_row_fits))]
 fn reply_row_fits(
     regions: &[u64],
     parameters: &[u64],
@@ -134,14 +115,7 @@ fn reply_fits(
         return false;
     }
     let rows = reply.len() / REPLY_WIDTH;
-    let mut k = 0;
-    while k < rows {
-        if !reply_row_fits(regions, parameters, arguments, call, reply, k) {
-            return false;
-        }
-        k += 1;
-    }
-    true
+    (0..rows).all(|k| reply_row_fits(regions, parameters, arguments, call, reply, k))
 }
 
 // A CALL whose arguments resolve and whose scalar references lie in their regions; else 6, 7, 8 or 14.
@@ -181,6 +155,7 @@ pub fn judge_call(
     Ok(call)
 }
 
+#[tactic(auto, unfolding(operands::specs::Address::address_of))]
 fn named_cell(regions: &[u64], name: u64, i: u64) -> usize
     requires { Laid regions.now × FoundWithin regions.now i (lookup_region regions.now name) }
     ensures { result ≡ cell_found regions.now i (lookup_region regions.now name) }
@@ -196,22 +171,11 @@ fn argument_cell(regions: &[u64], a: ResolvedCallArgument, offset: u64) -> usize
     ensures { result ≡ cell_hit regions.now offset a }
 {
     match a {
-        ResolvedCallArgument::Vector {
-            name,
-            vector: _,
-            mutable: _,
-        } => named_cell(regions, name, offset),
-        ResolvedCallArgument::MemoryReference {
-            name,
-            index,
-            kind: _,
-            mutable: _,
-        } => named_cell(regions, name, index),
-        ResolvedCallArgument::Immediate {
-            real: _,
-            imaginary: _,
-            kind: _,
-        } => 0,
+        ResolvedCallArgument::Vector { name, .. } => named_cell(regions, name, offset),
+        ResolvedCallArgument::MemoryReference { name, index, .. } => {
+            named_cell(regions, name, index)
+        }
+        ResolvedCallArgument::Immediate { .. } => 0,
     }
 }
 
@@ -235,6 +199,7 @@ fn cell_at(
 }
 
 // The write of the reply's row k.
+#[tactic(auto, unfolding(crate::specs::Call::reply_write))]
 pub fn reply_write(
     regions: &[u64],
     parameters: &[u64],

@@ -32,6 +32,7 @@ pub fn reply_at(reply: &[u64], k: usize) -> Reply
     }
 }
 
+#[tactic(auto, unfolding(crate::specs::Call::reply_length_fits))]
 pub fn reply_length_fits(reply: &[u64]) -> bool
     ensures { result ≡ reply_length_fits reply.now }
 {
@@ -39,6 +40,7 @@ pub fn reply_length_fits(reply: &[u64]) -> bool
 }
 
 // Whether a row fits an argument of that many cells and that kind.
+#[tactic(auto, unfolding(crate::specs::Call::fits_row))]
 fn fits_row(mutable: u64, length: u64, kind: u64, y: Reply) -> bool
     ensures { result ≡ fits_row mutable length kind y }
 {
@@ -52,20 +54,13 @@ pub fn hits_argument(y: Reply, a: ResolvedCallArgument) -> bool
 {
     match a {
         ResolvedCallArgument::Vector {
-            name: _,
             vector,
             mutable,
+            ..
         } => fits_row(mutable, vector.length, vector.kind, y),
-        ResolvedCallArgument::MemoryReference {
-            name: _,
-            index: _,
-            kind,
-            mutable,
-        } => fits_row(mutable, 1, kind, y),
-        ResolvedCallArgument::Immediate {
-            real: _,
-            imaginary: _,
-            kind: _,
-        } => false,
+        ResolvedCallArgument::MemoryReference { kind, mutable, .. } => {
+            fits_row(mutable, 1, kind, y)
+        }
+        ResolvedCallArgument::Immediate { .. } => false,
     }
 }

@@ -36,7 +36,7 @@ impl From<Refusal> for ResolveError {
     }
 }
 
-// Stores a row after `count` of them. Its width is a constant, so that it is copied without a call: the library has no `memmove`.
+// Stores a row after `count` of them. Its width is a constant, so that it is copied without a call of `memmove`, which the library does without.
 fn store<const WIDTH: usize>(rows: &mut [u64], count: usize, row: &[u64; WIDTH])
     requires { count * WIDTH + WIDTH ≤ length rows.old }
     ensures { rows.new ≡ sets rows.old (count * WIDTH) row.now }

@@ -1,4 +1,6 @@
 // Cells in lent memory, two words each: kind, word.
+#![tactic(auto, unfolding(crate::specs::Cells::put))]
+
 ghost use Rattle.std.specs.Prelude.{◌≡◌, ◌+◌, ◌*◌, ◌<◌, length};
 ghost use Rattle.journal.specs.Cells.{cell_width, put};
 

@@ -1,4 +1,6 @@
 // A step's entries in the lent journal, three words each: one for every write, then the closing entry.
+#![tactic(auto, unfolding(crate::specs::Entries::closing, crate::specs::Entries::entered))]
+
 ghost use Rattle.std.specs.Prelude.{◌≡◌, [], ◌∷◌, ◌+◌, ◌*◌, ◌≤◌, ◌<◌, length};
 ghost use Rattle.journal.specs.Cells.{cell_width, put, held, applied};
 ghost use Rattle.journal.specs.Entries.{entry_width, words_of, closing, changes_at, row_left_at, entered, journaled};

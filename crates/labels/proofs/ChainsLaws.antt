@@ -12,10 +12,6 @@ pub bucket_below : (label : ℕ) → bucket_of label < bucket_count
 unfolding bucket_of
 bucket_below label = omega arith
 
--- a label's bucket is one of them
-pub bucket_within : (label : ℕ) {r n : ℕ} → r ≡ bucket_of label → n ≡ bucket_count → r < n
-bucket_within label e f = omega (arith, bucket_below label, e, f)
-
 -- ---- one word
 
 -- what a chained word is

@@ -1,5 +1,5 @@
 -- Laws of kept targets: how they grow row by row. Assumes nothing.
-use Rattle.std.proofs.Common.{ℕ, ◌+◌, ◌<◌, ◌≤◌, true, false, List, ◌≡◌, sym, ap, ◌∙◌, arith, get_or, set, length, length-set, get_or-set_same, get_or-set_other}
+use Rattle.std.proofs.Common.{ℕ, ◌+◌, ◌<◌, ◌≤◌, true, List, ◌≡◌, sym, ◌∙◌, arith, get_or, set, length, length-set, get_or-set_same, get_or-set_other}
 use native.Mathlib.Decide.{ℕ_discrete}
 use Rattle.tables.specs.Rows.{instruction_rows, instruction_at}
 use Rattle.tables.proofs.FirstLaws.{never}
@@ -17,14 +17,6 @@ module _ (instructions targets : List ℕ) (room : instruction_rows instructions
   targets_none e = record { room = room; each = λ k h jump. never (sym (no_jump instructions e k h) ∙ jump) }
 
 module _ (instructions targets : List ℕ) (n : ℕ) (s : Targets instructions targets n) where
-  -- a row more that is no jump
-  pub targets_skip : is_jump (instruction_at instructions n) ≡ false → Targets instructions targets (n + 1)
-  targets_skip e = record { room = s.room; each = λ k h jump. at k h jump (ℕ_discrete k n) }
-    where
-      at : (k : ℕ) → k < n + 1 → is_jump (instruction_at instructions k) ≡ true → Dec (k ≡ n) → get_or targets k 0 ≡ label_row instructions (label_at instructions k)
-      at k h jump (yes q) = never (sym e ∙ (ap (λ i. is_jump (instruction_at instructions i)) (sym q) ∙ jump))
-      at k h jump (no ne) = s.each k (omega arith) jump
-
   -- a jump
   pub targets_add : {target : ℕ} → n < instruction_rows instructions → target ≡ label_row instructions (label_at instructions n) → Targets instructions (set targets n target) (n + 1)
   targets_add {target} l e = record { room = let r = s.room in let q = length-set targets n target in omega (arith, r, q); each = λ k h jump. at k h jump (ℕ_discrete k n) }

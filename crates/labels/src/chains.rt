@@ -1,4 +1,6 @@
 // LABEL rows by their labels, in chains: one for each bucket, from its last row to its first.
+#![tactic(auto, unfolding(crate::specs::Chains::bucket_of, crate::specs::Chains::chained))]
+
 ghost use Rattle.std.specs.Prelude.{◌≡◌, true, ◌≤◌, ◌<◌, ltb, get_or, length, set};
 ghost use Rattle.tables.specs.Rows.{instruction_rows, instruction_limit};
 ghost use Rattle.labels.specs.Labels.{has_label, labelled};

@@ -1,4 +1,6 @@
 // A label's row; and refusal 20, of the whole program.
+#![tactic(auto, unfolding(crate::specs::Labels::labels_fit))]
+
 ghost use Rattle.std.specs.Prelude.{◌≡◌, true, ◌+◌, ◌≤◌, ◌<◌, length};
 ghost use Rattle.tables.specs.Rows.{instruction_rows, instruction_limit};
 ghost use Rattle.labels.specs.Labels.{is_jump, label_row, new_label, has_target, labels_distinct, targets_present, unlabelled, labels_fit};

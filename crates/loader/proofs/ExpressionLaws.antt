@@ -1,17 +1,10 @@
 -- One pass over an expression's nodes says what the rules of words and of trees say. Assumes nothing.
-use Rattle.std.proofs.Common.{Some, None}
-use Prim.Native.Nat.{ℕ, zero, suc, ◌+◌, ◌-◌, ◌<◌, ◌≤◌}
-use mathlib.Core.Bool.{Bool, true, false, not, cond, ◌&&◌}
-use mathlib.Core.List.{List}
-use mathlib.Core.Path.{◌≡◌, refl, sym, ap, ◌∙◌}
-use native.Mathlib.Omega.{arith}
-use lib.Dec.{eqb}
-use borrow.Author.Tests.{le-leb}
+use Rattle.std.proofs.Common.{ℕ, zero, suc, ◌+◌, ◌-◌, ◌<◌, ◌≤◌, Bool, true, false, not, cond, ◌&&◌, List, ◌≡◌, refl, sym, ap, ◌∙◌, arith, eqb, le-leb, Some, None}
+use Rattle.tables.specs.declared.refusal.Refusal.{Refusal}
 use Rattle.tables.specs.First.{first, every_from, every}
 use Rattle.tables.specs.Refusal.{word_not_allowed}
 use Rattle.tables.specs.Rows.{node_width, node_limit, node_rows, node_tag, node_at}
 use Rattle.tables.specs.Tree.{arity_of, trees_from, inside, one_tree}
-use Rattle.tables.specs.declared.refusal.Refusal.{Refusal}
 use Rattle.tables.specs.Outcome.{◌>>◌, need}
 use Rattle.tables.specs.declared.rows.Node.{Node}
 use Rattle.tables.proofs.FirstLaws.{first_hit, first_miss, first-end}

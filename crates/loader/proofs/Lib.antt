@@ -1,4 +1,4 @@
 -- What the crates above cite of accepted tables (Loaded), and laws that the proofs here share.
 pub mod Loaded
-pub mod AllowedLaws
 pub mod ExpressionLaws
+pub mod LooksLaws

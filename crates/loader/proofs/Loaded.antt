@@ -1,12 +1,5 @@
 -- What tables are that the loader accepts: the facts that the layers above cite. Assumes nothing.
-use Rattle.std.proofs.Common.{Ok}
-use Prim.Native.Nat.{ℕ, ◌+◌, ◌/◌, ◌%◌, ◌<◌, ◌≤◌}
-use mathlib.Core.Bool.{Bool, true, ◌&&◌}
-use mathlib.Core.List.{List}
-use mathlib.Core.Path.{◌≡◌}
-use lib.ListN.{length}
-use lib.Dec.{eqb, ltb, leb}
-use borrow.Author.Tests.{ltb-true, leb-true, eqb-true}
+use Rattle.std.proofs.Common.{ℕ, ◌+◌, ◌/◌, ◌%◌, ◌<◌, ◌≤◌, Bool, true, ◌&&◌, List, ◌≡◌, length, eqb, ltb, leb, ltb-true, leb-true, eqb-true, Ok}
 use Rattle.tables.specs.Tables.{Tables}
 use Rattle.tables.specs.Rows as R
 use Rattle.tables.specs.Family as family

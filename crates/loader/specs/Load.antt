@@ -28,6 +28,13 @@ chosen_row instructions row family = ltb row (instruction_rows instructions) && 
 unfoldable pub distinct_names : List ℕ → List ℕ → Bool
 distinct_names regions externs = distinct region_width regions && distinct extern_width externs
 
+-- the looks in their order, where `chosen` says whether the row that a call takes, if it takes one, is there and of its family
+unfoldable pub chosen_look : Tables → Bool → Outcome (Unit {0})
+chosen_look t chosen = do
+  need (whole_tables t) table_shape
+  need (allowed_tables t && chosen) word_not_allowed
+  need (distinct_names t.regions t.externs) name_twice
+
 -- every call that takes all tables
 unfoldable pub load_look : Tables → Outcome (Unit {0})
 load_look t = do

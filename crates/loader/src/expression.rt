@@ -16,16 +16,14 @@ fn tree_allowed(nodes: &[u64], first: usize, end: usize) -> bool
     ensures { result ≡ trees_allowed nodes.now 1 first (end - first) }
 {
     let mut trees: usize = 1;
-    let mut i = first;
-    while i < end {
+    for row in first..end {
         if trees == 0 {
             return false;
         }
-        let Some(children) = children_of(node_at(nodes, i)) else {
+        let Some(children) = children_of(node_at(nodes, row)) else {
             return false;
         };
         trees = trees - 1 + children;
-        i += 1;
     }
     trees == 0
 }

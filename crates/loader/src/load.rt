@@ -1,8 +1,10 @@
 // Refusals 1, 2 and 3 over all tables, in that order.
+#![tactic(auto, unfolding(crate::specs::Load::allowed_tables, crate::specs::Load::chosen_row, crate::specs::Load::distinct_names))]
+
 ghost use Rattle.std.specs.Prelude.{◌≡◌, ◌≤◌};
 ghost use Rattle.tables.specs.Rows.{node_limit, node_rows};
 ghost use Rattle.tables.specs.Tables.{tables_of};
-ghost use Rattle.loader.specs.Load.{allowed_tables, distinct_names, chosen_row, load_look, load_row_look, load_nodes_look};
+ghost use Rattle.loader.specs.Load.{allowed_tables, distinct_names, chosen_row, chosen_look, load_look, load_row_look, load_nodes_look};
 
 use crate::expression::expression_allowed;
 use crate::shape::{whole_rows, whole_tables};
@@ -10,7 +12,7 @@ use tables::lookup::distinct_names;
 use tables::refusal::Refusal;
 use tables::rows::{
     ARGUMENT_WIDTH, EXTERN_WIDTH, INSTRUCTION_WIDTH, NODE_LIMIT, NODE_WIDTH, PARAMETER_WIDTH,
-    REGION_WIDTH,
+    REGION_WIDTH, instruction_at,
 };
 use word_rules::allowed::{
     arguments_allowed, externs_allowed, parameters_allowed, regions_allowed,
@@ -51,11 +53,34 @@ fn distinct_tables(regions: &[u64], externs: &[u64]) -> bool
 fn chosen_row(instructions: &[u64], row: usize, family: u64) -> bool
     ensures { result ≡ chosen_row instructions.now row family }
 {
-    if instructions.len() / INSTRUCTION_WIDTH <= row {
-        return false;
+    row < instructions.len() / INSTRUCTION_WIDTH
+        && instruction_at(instructions, row).family == family
+}
+
+// The looks in their order. `chosen` says whether the row that the call takes, if it takes one, is there and of its family.
+fn look_at_tables(
+    regions: &[u64],
+    externs: &[u64],
+    parameters: &[u64],
+    nodes: &[u64],
+    arguments: &[u64],
+    instructions: &[u64],
+    chosen: bool,
+) -> Result<(), Refusal>
+    ensures { result ≡ chosen_look (tables_of regions.now externs.now parameters.now nodes.now arguments.now instructions.now) chosen }
+{
+    if !whole_tables(regions, externs, parameters, nodes, arguments, instructions) {
+        return Err(Refusal::TableShape);
     }
-    let x = tables::rows::instruction_at(instructions, row);
-    x.family == family
+    let allowed = allowed_tables(regions, externs, parameters, nodes, arguments, instructions)
+        & chosen;
+    if !allowed {
+        return Err(Refusal::WordNotAllowed);
+    }
+    if !distinct_tables(regions, externs) {
+        return Err(Refusal::NameTwice);
+    }
+    Ok(())
 }
 
 pub fn load_tables(
@@ -68,16 +93,15 @@ pub fn load_tables(
 ) -> Result<(), Refusal>
     ensures { result ≡ load_look (tables_of regions.now externs.now parameters.now nodes.now arguments.now instructions.now) }
 {
-    if !whole_tables(regions, externs, parameters, nodes, arguments, instructions) {
-        return Err(Refusal::TableShape);
-    }
-    if !allowed_tables(regions, externs, parameters, nodes, arguments, instructions) {
-        return Err(Refusal::WordNotAllowed);
-    }
-    if !distinct_tables(regions, externs) {
-        return Err(Refusal::NameTwice);
-    }
-    Ok(())
+    look_at_tables(
+        regions,
+        externs,
+        parameters,
+        nodes,
+        arguments,
+        instructions,
+        true,
+    )
 }
 
 // For the calls that take a row: it must be there, of the family.
@@ -93,19 +117,16 @@ pub fn load_row(
 ) -> Result<(), Refusal>
     ensures { result ≡ load_row_look (tables_of regions.now externs.now parameters.now nodes.now arguments.now instructions.now) row family }
 {
-    if !whole_tables(regions, externs, parameters, nodes, arguments, instructions) {
-        return Err(Refusal::TableShape);
-    }
-    if !allowed_tables(regions, externs, parameters, nodes, arguments, instructions) {
-        return Err(Refusal::WordNotAllowed);
-    }
-    if !chosen_row(instructions, row, family) {
-        return Err(Refusal::WordNotAllowed);
-    }
-    if !distinct_tables(regions, externs) {
-        return Err(Refusal::NameTwice);
-    }
-    Ok(())
+    let chosen = chosen_row(instructions, row, family);
+    look_at_tables(
+        regions,
+        externs,
+        parameters,
+        nodes,
+        arguments,
+        instructions,
+        chosen,
+    )
 }
 
 // The nodes alone, with a chosen range that must be one tree.

@@ -1,4 +1,6 @@
 // Refusal 1: whole rows, within the limits.
+#![tactic(auto, unfolding(crate::specs::Shape::whole_rows, crate::specs::Shape::whole_tables))]
+
 ghost use Rattle.std.specs.Prelude.{◌≡◌, ◌<◌};
 ghost use Rattle.tables.specs.Tables.{tables_of};
 ghost use Rattle.loader.specs.Shape.{whole_rows, whole_tables};

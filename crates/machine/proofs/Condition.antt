@@ -12,7 +12,7 @@ use Rattle.tables.specs.Cases.{case_of}
 use Rattle.tables.specs.Family as family
 use Rattle.tables.specs.Lookup.{lookup_region}
 use Rattle.tables.specs.Names.{operands_of, names_first, indexes_first, names_second, indexes_second, names_source}
-use Rattle.tables.specs.Outcome.{Outcome, ◌>>=◌}
+use Rattle.tables.specs.Outcome.{◌>>=◌}
 use Rattle.tables.specs.declared.rows.Instruction.{Instruction}
 use Rattle.tables.proofs.Cases.{by_key}
 use Rattle.tables.proofs.FirstLaws.{never}
@@ -24,7 +24,7 @@ use Rattle.operands.specs.declared.address.NamedRegions.{NamedRegions}
 use Rattle.operands.specs.declared.address.Addresses.{Addresses}
 use Rattle.operands.proofs.Binds.{bound}
 use Rattle.control_flow.specs.Condition.{has_condition}
-use Rattle.control_flow.specs.Next.{condition_cell, word_on, condition_word}
+use Rattle.control_flow.specs.Next.{condition_cell, word_on}
 use Rattle.machine.specs.Families.{no_writes, families, conditional_of, family_of}
 use Rattle.machine.specs.Outcome.{plain_outcome}
 use Rattle.machine.specs.Condition.{ReadCondition, ConditionRead}

@@ -12,7 +12,6 @@ use Rattle.tables.proofs.Passed.{passed}
 use Rattle.journal.specs.declared.cells.Write.{Write}
 use Rattle.journal.specs.Cells.{put, applied}
 use Rattle.operands.specs.Cells.{cell_kind, cell_word, cell_at, read_of, write}
-use Rattle.operands.specs.declared.address.Addresses.{Addresses}
 use Rattle.operands.specs.declared.cell.Value.{Value}
 use Rattle.operands.proofs.Binds.{bound}
 use Rattle.machine.specs.Families.{exchange_of}

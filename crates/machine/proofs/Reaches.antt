@@ -1,6 +1,8 @@
 -- Where a row's operands were found, the cells that its family looks at are there. Assumes nothing.
 use Rattle.std.proofs.Common.{Ok}
-use Prim.Native.Nat.{ℕ}
+use Prim.Native.Nat.{ℕ, ◌≤◌}
+use native.Mathlib.Decide.{ℕ_discrete}
+use native.Mathlib.Omega.{arith}
 use mathlib.Core.Bool.{true}
 use mathlib.Core.List.{List}
 use mathlib.Core.Path.{◌≡◌, refl}
@@ -87,13 +89,13 @@ module _ {regions cells : List ℕ} {x : Instruction} {n : NamedRegions} {a : Ad
   unfolding names_first indexes_second operands_of case_of
   store_reach e = record { layout = p.layout; region = p.first-region (rw e refl); offset = second-there e refl; source = source-there }
 
-  pub when_reach : x.family ≡ family.jump_when → There cells a.first
+  pub conditional_reach : family.jump_when ≤ x.family → x.family ≤ family.jump_unless → There cells a.first
   unfolding indexes_first operands_of case_of
-  when_reach e = first-there e refl
-
-  pub unless_reach : x.family ≡ family.jump_unless → There cells a.first
-  unfolding indexes_first operands_of case_of
-  unless_reach e = first-there e refl
+  conditional_reach l h = at (ℕ_discrete x.family family.jump_when)
+    where
+      at : Dec (x.family ≡ family.jump_when) → There cells a.first
+      at (yes e) = first-there e refl
+      at (no ne) = let e : x.family ≡ family.jump_unless = omega arith in first-there e refl
 
   pub convert_reach : x.family ≡ family.convert → There cells a.source
   unfolding case_of form_allowed

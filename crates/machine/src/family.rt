@@ -215,6 +215,7 @@ fn conditional(cells: &[u64], a: Addresses) -> Result<Writes, Refusal>
 }
 
 // By the family. Frame rows, NOP, JUMP, LABEL and HALT change nothing.
+#[tactic(auto, unfolding(crate::specs::Families::family_of, tables::specs::Cases::case_of))]
 pub fn family_outcome(
     regions: &[u64],
     cells: &[u64],
@@ -235,8 +236,7 @@ pub fn family_outcome(
         family::EXCHANGE => exchange(cells, a),
         family::LOAD => load(regions, cells, n, a),
         family::STORE => store(regions, cells, x, n, a),
-        family::JUMP_WHEN => conditional(cells, a),
-        family::JUMP_UNLESS => conditional(cells, a),
+        family::JUMP_WHEN | family::JUMP_UNLESS => conditional(cells, a),
         family::CONVERT => convert(cells, a),
         _ => Ok(Writes::Nothing),
     }

@@ -74,8 +74,8 @@ fn pattern_of_tens(n: u32) -> u64
 {
     let low = n.min(11);
     real::multiply(
-        pattern_of_number(10u64.wrapping_pow(low)),
-        pattern_of_number(10u64.wrapping_pow(n - low)),
+        pattern_of_number(10u64.pow(low)),
+        pattern_of_number(10u64.pow(n - low)),
     )
 }
 

@@ -10,22 +10,18 @@ const INFINITY: u64 = 0x7FF0_0000_0000_0000;
 // Text as it grows.
 #[derive(Drop)]
 pub struct Text {
-    pub bytes: [u8; 32],
+    pub bytes: [u8; TEXT],
     pub length: usize,
 }
 
 impl Text {
     pub fn with(self, byte: u8) -> Text {
-        let mut bytes = self.bytes;
-        let length = self.length;
-        if length < TEXT {
-            bytes[length] = byte;
-            return Text {
-                bytes,
-                length: length + 1,
-            };
+        let mut text = self;
+        if text.length < TEXT {
+            text.bytes[text.length] = byte;
+            text.length += 1;
         }
-        self
+        text
     }
 }
 
@@ -95,7 +91,7 @@ fn named(name: &[u8], text: Text) -> Text {
 
 pub fn text_of(bits: u64) -> Text {
     let none = Text {
-        bytes: [0; 32],
+        bytes: [0; TEXT],
         length: 0,
     };
     let size = bits % SIGN;

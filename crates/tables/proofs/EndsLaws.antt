@@ -1,7 +1,7 @@
 -- Laws of where trees end: a node's by its number of children, from the ends of the trees after it. Assumes nothing.
-use Rattle.std.proofs.Common.{ℕ, zero, suc, ◌+◌, ◌-◌, ◌<◌, ◌≤◌, Bool, true, false, List, ◌≡◌, refl, sym, ap, ◌∙◌, arith, eq-eqb, ne_eqb, eqb-true, leb-true, leb-false, eqb, leb, get_or, set, length, length-set, get_or-set_same, get_or-set_other}
+use Rattle.std.proofs.Common.{ℕ, zero, suc, ◌+◌, ◌-◌, ◌<◌, ◌≤◌, Bool, true, false, List, ◌≡◌, refl, sym, ap, ◌∙◌, arith, eq-eqb, ne_eqb, eqb-true, leb-true, leb-false, eqb, leb, get_or}
 use native.Mathlib.Decide.{ℕ_discrete}
-use Rattle.tables.specs.Rows.{node_limit, node_rows, node_tag}
+use Rattle.tables.specs.Rows.{node_rows, node_tag}
 use Rattle.tables.specs.Tree.{arity_of, trees_from}
 use Rattle.tables.specs.Ends.{TreeEnd, EndsFrom}
 use Rattle.tables.proofs.FirstLaws.{never}
@@ -73,10 +73,6 @@ module _ (nodes : List ℕ) where
   no_trees i zero = sym (eq-eqb i (i + 0) (omega arith))
   no_trees i (suc n) = sym (ne_eqb i (i + suc n) (λ q. omega (arith, q)))
 
-  -- past the last node there is no tree
-  pub end_none : (i : ℕ) → node_rows nodes ≤ i → TreeEnd nodes i (node_rows nodes + 1)
-  end_none i h = record { within = omega arith; after = λ k a b. omega (arith, b); exact = λ n p l. absurd (omega arith) }
-
   -- the tree of row i by its children's: `below` says when so many rows from the next one on are they
   by_children : (i e : ℕ) → e ≤ node_rows nodes + 1 → ((k : ℕ) → k ≤ i → k ≤ node_rows nodes → k < e)
       → ((n : ℕ) → i + 1 + n ≤ node_rows nodes → trees_from nodes (arity_of (node_tag nodes i)) (i + 1) n ≡ eqb e (i + 1 + n)) → TreeEnd nodes i e
@@ -140,27 +136,7 @@ module _ (nodes : List ℕ) where
         at n k a false c false d = let w : i + 1 + n < f = leb-false _ _ c in d ∙ sym (not_end f e (i + 1 + n) u (omega arith) k)
 
 module _ (nodes ends : List ℕ) where
-  -- past the last node the list holds no end
-  pub ends_none : node_rows nodes + 1 < length ends → node_rows nodes ≤ node_limit → EndsFrom nodes (set ends (node_rows nodes + 1) (node_rows nodes + 1)) (node_rows nodes + 1)
-  ends_none c r = record { room = rw (length-set ends (node_rows nodes + 1) (node_rows nodes + 1)) c; rows = r; each = each }
-    where
-      each : (k : ℕ) → node_rows nodes + 1 ≤ k → k ≤ node_rows nodes + 1 → TreeEnd nodes k (get_or (set ends (node_rows nodes + 1) (node_rows nodes + 1)) k 0)
-      each k l h =
-          let q : k ≡ node_rows nodes + 1 = omega arith in
-          rw (q, get_or-set_same ends (node_rows nodes + 1) (node_rows nodes + 1) 0 c) (end_none nodes (node_rows nodes + 1) (omega arith))
-
-  -- a node's end is put before those of the nodes after it
-  pub ends_more : (i e : ℕ) → i ≤ node_rows nodes → EndsFrom nodes ends (i + 1) → TreeEnd nodes i e → EndsFrom nodes (set ends i e) i
-  ends_more i e l s t = record { room = rw (length-set ends i e) s.room; rows = s.rows; each = λ k a b. at k a b (ℕ_discrete k i) }
-    where
-      at : (k : ℕ) → i ≤ k → k ≤ node_rows nodes + 1 → Dec (k ≡ i) → TreeEnd nodes k (get_or (set ends i e) k 0)
-      at k a b (yes q) = rw (q, get_or-set_same ends i e 0 (omega (arith, l, s.room))) t
-      at k a b (no ne) = rw (get_or-set_other ends i k e 0 ne) (s.each k (omega arith) b)
-
   -- a range is one tree where its first node's tree ends with it
   pub ends_tree : (first count : ℕ) → EndsFrom nodes ends 0 → first + count ≤ node_rows nodes → eqb (get_or ends first 0) (first + count) ≡ trees_from nodes 1 first count
   ends_tree first zero s l = not_end nodes first _ (first + 0) (s.each first (omega arith) (omega arith)) (omega arith) l ∙ sym (no_rows nodes 1 first)
   ends_tree first (suc n) s l = sym ((s.each first (omega arith) (omega arith)).exact (suc n) (omega arith) l)
-
-  pub end_below : (i k : ℕ) → EndsFrom nodes ends i → i ≤ k → k ≤ node_rows nodes + 1 → get_or ends k 0 ≤ node_limit + 1
-  end_below i k s l h = omega (arith, (s.each k l h).within, s.rows)

@@ -1,6 +1,5 @@
 -- The place of a row's first word, for a table of any width. Assumes nothing.
-use Rattle.std.proofs.Common.{ℕ, ◌+◌, ◌-◌, ◌*◌, ◌<◌, ◌≤◌, Bool, true, false, ◌≡◌, refl, sym, arith, leb, leb-true, leb-false, le-leb, lt_of_le_of_lt, le-mul_of_pos_right, lt_of_lt_of_le, mul-lt-mul_of_pos_right, mul-le-mul_right}
-use borrow.Author.Tests.{lt-leb}
+use Rattle.std.proofs.Common.{ℕ, ◌*◌, ◌<◌, ◌≤◌, lt_of_le_of_lt, le-mul_of_pos_right, lt_of_lt_of_le, mul-lt-mul_of_pos_right, mul-le-mul_right}
 
 module _ {i rows width n : ℕ} where
   -- row i starts before the end of the rows
@@ -13,11 +12,3 @@ sooner_start {width = width} w h l = lt_of_le_of_lt (mul-le-mul_right width l) h
 
 pub start-below : {j width n : ℕ} → 0 < width → j * width < n → j < n
 start-below {j} w h = lt_of_le_of_lt (le-mul_of_pos_right j w) h
-
--- a range's test without a sum that could wrap
-pub leb_shift : (first count rows : ℕ) → count ≤ rows → leb first (rows - count) ≡ leb (first + count) rows
-leb_shift first count rows h = same (leb first (rows - count)) refl
-  where
-    same : (t : Bool) → leb first (rows - count) ≡ t → t ≡ leb (first + count) rows
-    same true e = let l : first ≤ rows - count = leb-true _ _ e in sym (le-leb (first + count) rows (omega arith))
-    same false e = let l : rows - count < first = leb-false _ _ e in sym (lt-leb (first + count) rows (omega arith))

@@ -1,4 +1,6 @@
 // Lookup of a row by its name, the row's first word.
+#![tactic(auto, unfolding(crate::specs::Lookup::lookup_of, crate::specs::Marks::mark_of))]
+
 ghost use Rattle.std.specs.Prelude.{◌≡◌, ◌||◌, ◌<◌, ◌≤◌, ◌+◌, ◌-◌, ◌*◌, ◌%◌, eqb, length};
 ghost use Rattle.std.specs.Option.{is_some};
 ghost use Rattle.tables.specs.Lookup.{name_at, lookup_from, lookup_among, lookup_of, lookup_region, lookup_extern, distinct};

@@ -1,4 +1,6 @@
 // Expressions as node rows: a parent precedes its children, left first.
+#![tactic(auto, unfolding(crate::specs::Tree::arity_of, crate::specs::Tree::inside, crate::specs::Cases::case_of))]
+
 ghost use Rattle.std.specs.Prelude.{◌≡◌};
 ghost use Rattle.tables.specs.Tree.{arity_of, inside};
 
@@ -21,8 +23,5 @@ pub fn range_inside(first: u64, count: u64, rows: usize) -> bool
     ensures { result ≡ inside first count rows }
 {
     let rows = rows as u64;
-    if rows < count {
-        return false;
-    }
-    first <= rows - count
+    count <= rows && first <= rows - count
 }

@@ -1,4 +1,3 @@
 -- Laws that the proofs share, here and in the crates above.
 pub mod CodeLaws
-pub mod LookLaws
 pub mod DeclarationLaws

@@ -57,3 +57,15 @@ verdict_at row (fail f) =
       first_code = f.first_code;
       second_code = f.second_code;
     })
+
+-- the error of an undeclared operand, with its row
+abbrev pub undeclared_at : ℕ → ℕ → TypeError
+undeclared_at row spot =
+    record {
+      kind = undefined_error;
+      row = row;
+      spot = spot;
+      src_spot = no_spot;
+      first_code = absent;
+      second_code = absent;
+    }

@@ -1,7 +1,7 @@
 // Verdicts, and the four type errors under quil-rs's names.
 // Translated from quil-rs, program/type_check.rs (Apache-2.0), and changed: see NOTICE.
 ghost use Rattle.std.specs.Prelude.{◌≡◌};
-ghost use Rattle.type_rules.specs.Judgement.{undefined_memory_reference, data_type_mismatch, real_value_required, operator_operand_mismatch, verdict_at};
+ghost use Rattle.type_rules.specs.Judgement.{undeclared_at, data_type_mismatch, real_value_required, operator_operand_mismatch, verdict_at};
 
 use crate::code::{ABSENT, DATA_TYPE, NO_SPOT, OPERAND, REAL_REQUIRED, UNDEFINED};
 use tables::refusal::Refusal;
@@ -44,8 +44,9 @@ impl From<TypeError> for ProgramError {
     }
 }
 
-pub fn undefined_memory_reference(row: u64, spot: u64) -> Result<(), TypeError>
-    ensures { result ≡ verdict_at row (undefined_memory_reference spot) }
+// Of any look, as quil-rs has it.
+pub fn undefined_memory_reference<T>(row: u64, spot: u64) -> Result<T, TypeError>
+    ensures { result ≡ Err (undeclared_at row spot) }
 {
     Err(TypeError {
         kind: UNDEFINED,

@@ -16,22 +16,8 @@ use tables::rows::Instruction;
 use tables::{operator, source};
 use words::kind::{BIT, INTEGER, INTEGER_LITERAL, OCTET, REAL, REAL_LITERAL};
 
-// The kinds of a row's first and second operand, or the error of the first that is undeclared.
-#[derive(Drop)]
-pub enum Pair {
-    Error(Result<(), TypeError>),
-    Kinds(u64, u64),
-}
-
-// How a source goes with the kind of another operand: a misfit comes with its code, an undeclared source as its error.
-#[derive(Drop)]
-pub enum Fit {
-    Fits,
-    Error(Result<(), TypeError>),
-    Misfits(u64),
-}
-
 // A declared region's kind. The loader leaves no word above REAL there.
+#[tactic(auto, unfolding(crate::specs::Codes::kind_code))]
 pub fn kind_at(regions: &[u64], region: usize) -> u64
     requires { region < region_rows regions.now }
     ensures { result ≡ kind_code (region_kind regions.now region) }
@@ -44,6 +30,7 @@ pub fn kind_at(regions: &[u64], region: usize) -> u64
 }
 
 // An arithmetic source that is a reference.
+#[tactic(auto, unfolding(crate::specs::Rule::arithmetic_source, crate::specs::Codes::code_of, crate::specs::Codes::kind_code))]
 fn arithmetic_source(
     regions: &[u64],
     row: u64,
@@ -68,6 +55,7 @@ fn arithmetic_source(
     }
 }
 
+#[tactic(auto, unfolding(crate::specs::Rule::arithmetic_rule, crate::specs::Codes::code_of, crate::specs::Codes::kind_code, crate::specs::Codes::operand_code, tables::specs::Cases::case_of))]
 pub fn type_check_arithmetic(regions: &[u64], row: u64, x: Instruction) -> Result<(), TypeError>
     ensures { result ≡ verdict_at row (arithmetic_rule (first_code regions.now x) (operand_code regions.now x)) }
 {
@@ -93,38 +81,47 @@ pub fn type_check_arithmetic(regions: &[u64], row: u64, x: Instruction) -> Resul
     }
 }
 
-fn reference_fit(regions: &[u64], row: u64, kind: u64, name: u64) -> Fit
+// How a source goes with the kind of another operand: its code where it is another kind's.
+#[tactic(auto, unfolding(crate::specs::Looks::fit_of, crate::specs::Codes::code_of, crate::specs::Codes::kind_code))]
+fn reference_fit(regions: &[u64], row: u64, kind: u64, name: u64) -> Result<Option<u64>, TypeError>
     ensures { result ≡ fit_of row kind (code_of regions.now name) }
 {
     let Some(region) = lookup_region(regions, name) else {
-        return Fit::Error(undefined_memory_reference(row, SOURCE));
+        return undefined_memory_reference(row, SOURCE);
     };
     let source = kind_at(regions, region);
     if kind == source {
-        Fit::Fits
+        Ok(None)
     } else {
-        Fit::Misfits(source)
+        Ok(Some(source))
     }
 }
 
-fn source_fit(regions: &[u64], row: u64, kind: u64, x: Instruction) -> Fit
+#[tactic(auto, unfolding(crate::specs::Looks::fit_of, crate::specs::Codes::operand_code, tables::specs::Cases::case_of))]
+fn source_fit(
+    regions: &[u64],
+    row: u64,
+    kind: u64,
+    x: Instruction,
+) -> Result<Option<u64>, TypeError>
     ensures { result ≡ fit_of row kind (operand_code regions.now x) }
 {
     let form = x.source_form;
     match form {
         source::INTEGER_LITERAL => match kind {
-            BIT..=OCTET => Fit::Fits,
-            _ => Fit::Misfits(INTEGER_LITERAL),
+            BIT..=OCTET => Ok(None),
+            _ => Ok(Some(INTEGER_LITERAL)),
         },
         source::REAL_LITERAL => match kind {
-            BIT..=OCTET => Fit::Misfits(REAL_LITERAL),
-            _ => Fit::Fits,
+            BIT..=OCTET => Ok(Some(REAL_LITERAL)),
+            _ => Ok(None),
         },
         _ => reference_fit(regions, row, kind, x.source_first),
     }
 }
 
 // MOVE's source, a comparison's rhs: against the kind of the operand at `spot`.
+#[tactic(auto, unfolding(crate::specs::Rule::source_rule, crate::specs::Looks::fit_of))]
 fn check_source(
     regions: &[u64],
     row: u64,
@@ -134,53 +131,43 @@ fn check_source(
 ) -> Result<(), TypeError>
     ensures { result ≡ verdict_at row (source_rule spot kind (operand_code regions.now x)) }
 {
-    match source_fit(regions, row, kind, x) {
-        Fit::Fits => Ok(()),
-        Fit::Error(error) => error,
-        Fit::Misfits(source) => data_type_mismatch(row, spot, SOURCE, kind, source),
+    match source_fit(regions, row, kind, x)? {
+        None => Ok(()),
+        Some(source) => data_type_mismatch(row, spot, SOURCE, kind, source),
     }
 }
 
-fn pair_of(regions: &[u64], row: u64, x: Instruction) -> Pair
+// The kinds of a row's first and second operand, or the error of the first that is undeclared.
+#[tactic(auto, unfolding(crate::specs::Looks::pair_of, crate::specs::Codes::code_of, crate::specs::Codes::kind_code))]
+fn pair_of(regions: &[u64], row: u64, x: Instruction) -> Result<(u64, u64), TypeError>
     ensures { result ≡ pair_of row (first_code regions.now x) (second_code regions.now x) }
 {
     let Some(first) = lookup_region(regions, x.first_name) else {
-        return Pair::Error(undefined_memory_reference(row, FIRST));
+        return undefined_memory_reference(row, FIRST);
     };
     let Some(second) = lookup_region(regions, x.second_name) else {
-        return Pair::Error(undefined_memory_reference(row, SECOND));
+        return undefined_memory_reference(row, SECOND);
     };
-    Pair::Kinds(kind_at(regions, first), kind_at(regions, second))
+    Ok((kind_at(regions, first), kind_at(regions, second)))
 }
 
+#[tactic(auto, unfolding(crate::specs::Rule::comparison_rule, crate::specs::Looks::pair_of))]
 pub fn type_check_comparison(regions: &[u64], row: u64, x: Instruction) -> Result<(), TypeError>
     ensures { result ≡ verdict_at row (comparison_rule (first_code regions.now x) (second_code regions.now x) (operand_code regions.now x)) }
 {
-    match pair_of(regions, row, x) {
-        Pair::Error(error) => error,
-        Pair::Kinds(destination, lhs) => match destination {
-            BIT => check_source(regions, row, SECOND, lhs, x),
-            _ => operator_operand_mismatch(row, FIRST, destination, BIT_ONLY),
-        },
+    let (destination, lhs) = pair_of(regions, row, x)?;
+    match destination {
+        BIT => check_source(regions, row, SECOND, lhs, x),
+        _ => operator_operand_mismatch(row, FIRST, destination, BIT_ONLY),
     }
 }
 
-// A source of binary logic. The loader lets no real literal through.
-fn logic_source(regions: &[u64], row: u64, x: Instruction) -> Result<(), TypeError>
-    ensures { result ≡ verdict_at row (logic_source (operand_code regions.now x)) }
+// A source of binary logic that is a reference.
+#[tactic(auto, unfolding(crate::specs::Rule::logic_source, crate::specs::Codes::code_of, crate::specs::Codes::kind_code))]
+fn logic_reference(regions: &[u64], row: u64, name: u64) -> Result<(), TypeError>
+    ensures { result ≡ verdict_at row (logic_source (code_of regions.now name)) }
 {
-    let form = x.source_form;
-    match form {
-        source::INTEGER_LITERAL => return Ok(()),
-        source::REAL_LITERAL => return operator_operand_mismatch(
-            row,
-            SOURCE,
-            REAL_LITERAL,
-            INTEGRAL,
-        ),
-        _ => {}
-    }
-    let Some(region) = lookup_region(regions, x.source_first) else {
+    let Some(region) = lookup_region(regions, name) else {
         return undefined_memory_reference(row, SOURCE);
     };
     let source = kind_at(regions, region);
@@ -190,6 +177,20 @@ fn logic_source(regions: &[u64], row: u64, x: Instruction) -> Result<(), TypeErr
     }
 }
 
+// A source of binary logic. The loader lets no real literal through.
+#[tactic(auto, unfolding(crate::specs::Rule::logic_source, crate::specs::Codes::operand_code, tables::specs::Cases::case_of))]
+fn logic_source(regions: &[u64], row: u64, x: Instruction) -> Result<(), TypeError>
+    ensures { result ≡ verdict_at row (logic_source (operand_code regions.now x)) }
+{
+    let form = x.source_form;
+    match form {
+        source::INTEGER_LITERAL => Ok(()),
+        source::REAL_LITERAL => operator_operand_mismatch(row, SOURCE, REAL_LITERAL, INTEGRAL),
+        _ => logic_reference(regions, row, x.source_first),
+    }
+}
+
+#[tactic(auto, unfolding(crate::specs::Rule::logic_rule, crate::specs::Codes::code_of, crate::specs::Codes::kind_code))]
 pub fn type_check_binary_logic(regions: &[u64], row: u64, x: Instruction) -> Result<(), TypeError>
     ensures { result ≡ verdict_at row (logic_rule (first_code regions.now x) (operand_code regions.now x)) }
 {
@@ -204,6 +205,7 @@ pub fn type_check_binary_logic(regions: &[u64], row: u64, x: Instruction) -> Res
 }
 
 // NEG, else NOT.
+#[tactic(auto, unfolding(crate::specs::Rule::unary_rule, crate::specs::Codes::code_of, crate::specs::Codes::kind_code))]
 pub fn type_check_unary_logic(regions: &[u64], row: u64, x: Instruction) -> Result<(), TypeError>
     ensures { result ≡ verdict_at row (unary_rule x.operator (first_code regions.now x)) }
 {
@@ -224,6 +226,7 @@ pub fn type_check_unary_logic(regions: &[u64], row: u64, x: Instruction) -> Resu
     }
 }
 
+#[tactic(auto, unfolding(crate::specs::Rule::move_rule, crate::specs::Codes::code_of, crate::specs::Codes::kind_code))]
 pub fn type_check_move(regions: &[u64], row: u64, x: Instruction) -> Result<(), TypeError>
     ensures { result ≡ verdict_at row (move_rule (first_code regions.now x) (operand_code regions.now x)) }
 {
@@ -234,22 +237,20 @@ pub fn type_check_move(regions: &[u64], row: u64, x: Instruction) -> Result<(), 
     check_source(regions, row, FIRST, destination, x)
 }
 
+#[tactic(auto, unfolding(crate::specs::Rule::exchange_rule, crate::specs::Looks::pair_of))]
 pub fn type_check_exchange(regions: &[u64], row: u64, x: Instruction) -> Result<(), TypeError>
     ensures { result ≡ verdict_at row (exchange_rule (first_code regions.now x) (second_code regions.now x)) }
 {
-    match pair_of(regions, row, x) {
-        Pair::Error(error) => error,
-        Pair::Kinds(left, right) => {
-            if left == right {
-                Ok(())
-            } else {
-                data_type_mismatch(row, FIRST, SECOND, left, right)
-            }
-        }
+    let (left, right) = pair_of(regions, row, x)?;
+    if left == right {
+        Ok(())
+    } else {
+        data_type_mismatch(row, FIRST, SECOND, left, right)
     }
 }
 
 // A LOAD's offset, and then the kinds of its destination and its source.
+#[tactic(auto, unfolding(crate::specs::Rule::load_offset, crate::specs::Codes::code_of, crate::specs::Codes::kind_code))]
 fn load_offset(
     regions: &[u64],
     row: u64,
@@ -275,18 +276,16 @@ fn load_offset(
     }
 }
 
+#[tactic(auto, unfolding(crate::specs::Rule::load_rule, crate::specs::Looks::pair_of))]
 pub fn type_check_load(regions: &[u64], row: u64, x: Instruction) -> Result<(), TypeError>
     ensures { result ≡ verdict_at row (load_rule (first_code regions.now x) (second_code regions.now x) (reference_code regions.now x)) }
 {
-    match pair_of(regions, row, x) {
-        Pair::Error(error) => error,
-        Pair::Kinds(destination, source) => {
-            load_offset(regions, row, destination, source, x.source_first)
-        }
-    }
+    let (destination, source) = pair_of(regions, row, x)?;
+    load_offset(regions, row, destination, source, x.source_first)
 }
 
 // A STORE's source against the kind of its destination: the source is the error's `dst`.
+#[tactic(auto, unfolding(crate::specs::Rule::store_source, crate::specs::Looks::fit_of))]
 fn store_source(
     regions: &[u64],
     row: u64,
@@ -295,21 +294,19 @@ fn store_source(
 ) -> Result<(), TypeError>
     ensures { result ≡ verdict_at row (store_source destination (operand_code regions.now x)) }
 {
-    match source_fit(regions, row, destination, x) {
-        Fit::Fits => Ok(()),
-        Fit::Error(error) => error,
-        Fit::Misfits(source) => data_type_mismatch(row, SOURCE, FIRST, source, destination),
+    match source_fit(regions, row, destination, x)? {
+        None => Ok(()),
+        Some(source) => data_type_mismatch(row, SOURCE, FIRST, source, destination),
     }
 }
 
+#[tactic(auto, unfolding(crate::specs::Rule::store_rule, crate::specs::Looks::pair_of))]
 pub fn type_check_store(regions: &[u64], row: u64, x: Instruction) -> Result<(), TypeError>
     ensures { result ≡ verdict_at row (store_rule (first_code regions.now x) (second_code regions.now x) (operand_code regions.now x)) }
 {
-    match pair_of(regions, row, x) {
-        Pair::Error(error) => error,
-        Pair::Kinds(destination, offset) => match offset {
-            INTEGER => store_source(regions, row, destination, x),
-            _ => operator_operand_mismatch(row, SECOND, offset, INTEGRAL),
-        },
+    let (destination, offset) = pair_of(regions, row, x)?;
+    match offset {
+        INTEGER => store_source(regions, row, destination, x),
+        _ => operator_operand_mismatch(row, SECOND, offset, INTEGRAL),
     }
 }

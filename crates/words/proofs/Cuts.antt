@@ -1,78 +1,79 @@
--- A REAL's size without its fraction, by shifts, and the answer. Assumes nothing.
-use Rattle.std.proofs.Common.{◌≡◌, ℕ, zero, suc, ◌+◌, ◌-◌, ◌*◌, ◌/◌, ◌%◌, ◌^◌, ◌<◌, ◌≤◌, Bool, true, false, cond, not, pos, neg_ℤ, sym, refl, ap, ◌∙◌, ap₂, le_trans, lt_of_lt_of_le, le-add_right, le_of_lt, mul-le-mul_right, mod-eq_of_lt, mul_assoc, mul-le-mul_left, le-div_iff_mul-le, arith, lit≤, pow_pos, pow_mono, pow-add, shl_lt, shl_exact, shr-shr, ne_eqb, le-leb, Some, None}
-use Rattle.std.proofs.Math.Nat.{div-eq_of_lt}
+-- A REAL's whole number, from the library's truncation of its value, and the answer. Assumes nothing.
+use Rattle.std.proofs.Common.{◌≡◌, ℕ, zero, suc, ◌+◌, ◌-◌, ◌*◌, ◌/◌, ◌%◌, ◌^◌, ◌<◌, ◌≤◌, min, Bool, true, false, cond, ℤ, pos, neg_ℤ, w64, of_z, sym, refl, ap, ◌∙◌, ap₂, subst, le_trans, ltb, eqb, ◌||◌, ◌&&◌, lt_of_lt_of_le, mod-lt, mod-eq_of_lt, mul_assoc, mul_comm, arith, lit≤, pow_pos, pow_mono, pow-add, shl_lt, le-leb, ltb-true, ltb-false, lt-ltb, Some, None}
+use Rattle.std.specs.Float.{Float, nan, inf, fin, binary64, two_to, minus_two_to}
+use Rattle.std.specs.Float.Ieee.{of_bits, to_signed, lt, le, eq, up, down}
+use Rattle.std.specs.Float.Ieee.Exact.{HasValue}
+use Rattle.std.specs.Float.Ieee.Fits.{down_pos}
 use Rattle.std.specs.Int.Signed.{quot_z}
+use Rattle.std.proofs.Math.Nat.{div-eq_of_lt, mul-div-mul_right, le-div_iff_mul-le, div-lt_iff_lt-mul, lt_of_mul-lt-mul_right, mul-lt-mul_of_pos_right, mul_right_comm}
 use Rattle.std.proofs.Math.Pow.{shl-shr}
 use Rattle.std.proofs.lemmas.Bool.{lt-leb}
+use Rattle.std.proofs.lemmas.Bool.Decides.{nat_tests}
 use Rattle.words.specs.TwosComplement.{word_of}
 use Rattle.words.specs.Convert.{is_negative, exponent, fraction, is_finite, units_at, units_of_one, with_sign, units, truncated, within_integer, real_to_integer}
-use Rattle.words.proofs.Units.{with_lead}
+use Rattle.words.proofs.Units.{by_digits, same_value, no_value}
 
--- ---- q * 2 ^ j units, cut to a whole number
+-- ---- one quotient, of the value's fraction and of its units
 
-join : (j : ℕ) → j ≤ 1074 → j + (1074 - j) ≡ 1074
-join j h = omega arith
+same_quotient : (m c n d : ℕ) → 0 < c → 0 < d → m * d ≡ n * c → m / c ≡ n / d
+same_quotient m c n d hc hd e = sym (mul-div-mul_right m c hd) ∙ ap₂ ◌/◌ e (mul_comm c d) ∙ mul-div-mul_right n d hc
 
-shifted_down : (q j : ℕ) → j ≤ 1074 → q / 2 ^ (1074 - j) ≡ q * 2 ^ j / units_of_one
-shifted_down q j h = ap (λ (k : ℕ). k / 2 ^ (1074 - j)) (sym (shl-shr q j)) ∙ shr-shr (q * 2 ^ j) j (1074 - j) ∙ ap (λ (k : ℕ). q * 2 ^ j / 2 ^ k) (join j h)
+-- above 2 ^ 63 the units are whole
+abbrev Spaced : ℕ → Type 0
+Spaced n = 2 ^ 63 * units_of_one < n → 2 ^ 63 < n / units_of_one
+
+whole : (p : ℕ) → Spaced (p * units_of_one)
+whole p l = subst (λ (k : ℕ). 2 ^ 63 < k) (sym (shl-shr p 1074)) (lt_of_mul-lt-mul_right units_of_one {m = 2 ^ 63} {n = p} l)
+
+no : (x y : ℕ) → x < y → y < x → ⊥
+no x y h k = omega arith
+
+near_place : (j : ℕ) → j < 1074 → 53 + j ≤ 1127
+near_place j h = omega arith
 
 rejoin : (j : ℕ) → 1074 ≤ j → j - 1074 + 1074 ≡ j
 rejoin j h = omega arith
 
-shifted_up : (q j : ℕ) → 1074 ≤ j → q * 2 ^ (j - 1074) ≡ q * 2 ^ j / units_of_one
-shifted_up q j h =
-    sym (ap (λ (k : ℕ). k / units_of_one) (ap (λ (k : ℕ). q * 2 ^ k) (sym (rejoin j h)) ∙ ap (λ (k : ℕ). q * k) (pow-add 2 (j - 1074) 1074) ∙ sym (mul_assoc q (2 ^ (j - 1074)) units_of_one))
-    ∙ shl-shr (q * 2 ^ (j - 1074)) 1074)
+spaced : (q j : ℕ) → q < 2 ^ 53 → Spaced (q * 2 ^ j)
+spaced q j h = go (ltb j 1074) refl
+  where
+    low : j < 1074 → 2 ^ 63 * units_of_one < q * 2 ^ j → ⊥
+    low b l = no (2 ^ 63 * units_of_one) (q * 2 ^ j) l (lt_of_lt_of_le (shl_lt 53 j h) (le_trans (pow_mono {i = 53 + j} {j = 1127} (near_place j b)) (lit≤ tt)))
 
-low_room : (x : ℕ) → suc x < 1023 → 53 + x ≤ 1074
-low_room x h = omega arith
+    go : (b : Bool) → ltb j 1074 ≡ b → Spaced (q * 2 ^ j)
+    go true e = (λ l. absurd (low (ltb-true j 1074 e) l))
+    go false e =
+        subst Spaced
+        (mul_assoc q (2 ^ (j - 1074)) units_of_one ∙ ap (λ (k : ℕ). q * k) (sym (pow-add 2 (j - 1074) 1074)) ∙ ap (λ (k : ℕ). q * 2 ^ k) (rejoin j (ltb-false j 1074 e)))
+        (whole (q * 2 ^ (j - 1074)))
 
-pub cut_low : (x t : ℕ) → x < 1023 → t < 2 ^ 52 → 0 ≡ units_at x t / units_of_one
-unfolding units_at
-cut_low zero t x h = sym (div-eq_of_lt (lt_of_lt_of_le h (pow_mono {i = 52} {j = 1074} (lit≤ tt))))
-cut_low (suc j) t x h = sym (div-eq_of_lt (lt_of_lt_of_le (shl_lt 53 j (with_lead t h)) (pow_mono (low_room j x))))
+spaced-units : (a : ℕ) → Spaced (units_at (exponent a) (fraction a))
+spaced-units a = by_digits Spaced (exponent a) (fraction a) (mod-lt a (pow_pos 52)) spaced
 
-none : (x : ℕ) → x < 0 → ⊥
-none x h = omega arith
+-- ---- the value's fraction m / c beside 2 ^ 63
 
-down_by : (j : ℕ) → 1075 - suc j ≡ 1074 - j
-down_by j = omega arith
+module _ (m c : ℕ) (hc : 0 < c) where
+  quotient_below : ltb (m * 1) (1 * 2 ^ 63 * c) ≡ true → m / c < 2 ^ 63
+  quotient_below e = (div-lt_iff_lt-mul hc).1 (let h : m * 1 < 1 * 2 ^ 63 * c = ltb-true _ _ e in omega arith)
 
-down_room : (j : ℕ) → suc j ≤ 1075 → j ≤ 1074
-down_room j h = omega arith
+  quotient_from : ltb (m * 1) (1 * 2 ^ 63 * c) ≡ false → 2 ^ 63 ≤ m / c
+  quotient_from e = (le-div_iff_mul-le hc).1 (let h : 1 * 2 ^ 63 * c ≤ m * 1 = ltb-false _ _ e in omega arith)
 
-above_zero : 1023 ≤ 0 → ⊥
-above_zero h = omega arith
+  quotient_at_most : ltb (m * 1) (1 * 2 ^ 63 * c) || (eqb (1 * 2 ^ 63 * c) (m * 1) && true) ≡ true → m / c ≤ 2 ^ 63
+  quotient_at_most e =
+      let h : m ≤ 2 ^ 63 * c = grind (arith, nat_tests) in
+      let l : m / c < 2 ^ 63 + 1 = (div-lt_iff_lt-mul hc).1 (omega arith) in
+      omega arith
 
-pub cut_down : (x t : ℕ) → 1023 ≤ x → x ≤ 1075 → (2 ^ 52 + t) / 2 ^ (1075 - x) ≡ units_at x t / units_of_one
-unfolding units_at
-cut_down zero t l h = absurd (above_zero l)
-cut_down (suc j) t l h = ap (λ (k : ℕ). (2 ^ 52 + t) / 2 ^ k) (down_by j) ∙ shifted_down (2 ^ 52 + t) j (down_room j h)
-
-up_by : (j : ℕ) → suc j - 1075 ≡ j - 1074
-up_by j = omega arith
-
-up_room : (j : ℕ) → suc j ≤ 1086 → 53 + (j - 1074) ≤ 64
-up_room j h = omega arith
-
-up_least : (j : ℕ) → 1075 < suc j → 1074 ≤ j
-up_least j h = omega arith
-
-pub cut_up : (x t : ℕ) → 1075 < x → x ≤ 1086 → t < 2 ^ 52 → (2 ^ 52 + t) * 2 ^ (x - 1075) % 2 ^ 64 ≡ units_at x t / units_of_one
-unfolding units_at
-cut_up zero t l h b = absurd (none 1075 l)
-cut_up (suc j) t l h b =
-    ap (λ (k : ℕ). (2 ^ 52 + t) * 2 ^ k % 2 ^ 64) (up_by j)
-    ∙ shl_exact 53 (j - 1074) 64 (with_lead t b) (up_room j h)
-    ∙ shifted_up (2 ^ 52 + t) j (up_least j l)
-
-high_least : (j : ℕ) → 1086 < suc j → 1086 ≤ j
-high_least j h = omega arith
-
-cut_high : (x t : ℕ) → 1086 < x → 2 ^ 64 ≤ units_at x t / units_of_one
-unfolding units_at
-cut_high zero t l = absurd (none 1086 l)
-cut_high (suc j) t l = (le-div_iff_mul-le (pow_pos 1074)).1 (le_trans (mul-le-mul_left (2 ^ 52) (pow_mono (high_least j l))) (mul-le-mul_right (2 ^ j) (le-add_right (2 ^ 52) t)))
+  units_above : (n : ℕ) → ltb (m * 1) (1 * 2 ^ 63 * c) || (eqb (1 * 2 ^ 63 * c) (m * 1) && true) ≡ false → m * units_of_one ≡ n * c → 2 ^ 63 * units_of_one < n
+  units_above n e v =
+      let h : 2 ^ 63 * c < m = grind (arith, nat_tests) in
+      above units_of_one n (pow_pos 1074) h v
+    where
+      above : (d n : ℕ) → 0 < d → 2 ^ 63 * c < m → m * d ≡ n * c → 2 ^ 63 * d < n
+      above d n hd h v =
+          lt_of_mul-lt-mul_right c {m = 2 ^ 63 * d} {n = n}
+          (subst (λ (z : ℕ). 2 ^ 63 * d * c < z) v (subst (λ (z : ℕ). z < m * d) (mul_right_comm (2 ^ 63) c d) (mul-lt-mul_of_pos_right h hd)))
 
 -- ---- in the range, and outside
 
@@ -93,16 +94,16 @@ beyond_pos : (k : ℕ) → 2 ^ 63 ≤ k → None ≡ within_integer (pos k)
 unfolding within_integer
 beyond_pos k h = rw (lt-leb k (2 ^ 63 - 1) (last_above k h))
 
-zero_word : (r : ℕ) → r < 2 ^ 64 → (r + 0) % 2 ^ 64 ≡ 0 → r ≡ 0
-zero_word r h e = omega arith
+neg_fits : (j : ℕ) → suc j ≤ 2 ^ 63 → 2 ^ 64 - suc j ≡ 2 ^ 64 - suc (j % 2 ^ 64)
+neg_fits j l = omega arith
 
-neg_word : (j r : ℕ) → suc j ≤ 2 ^ 63 → r < 2 ^ 64 → (r + suc j) % 2 ^ 64 ≡ 0 → r ≡ 2 ^ 64 - suc (j % 2 ^ 64)
-neg_word j r l h e = omega arith
-
-within-neg : (k r : ℕ) → k ≤ 2 ^ 63 → r < 2 ^ 64 → (r + k) % 2 ^ 64 ≡ 0 → Some r ≡ within_integer (neg_ℤ (pos k))
+within-neg : (k : ℕ) → k ≤ 2 ^ 63 → Some (of_z w64 (neg_ℤ (pos k))) ≡ within_integer (neg_ℤ (pos k))
 unfolding within_integer word_of
-within-neg zero r l h e = ap Some (zero_word r h e)
-within-neg (suc j) r l h e = rw (le-leb j (2 ^ 63 - 1) (last_below j l)) (ap Some (neg_word j r l h e))
+within-neg zero l = refl
+within-neg (suc j) l = rw (le-leb j (2 ^ 63 - 1) (last_below j l)) (ap Some (neg_fits j l))
+
+none : (k : ℕ) → k < 0 → ⊥
+none k h = omega arith
 
 neg_above : (j : ℕ) → 2 ^ 63 < suc j → 2 ^ 63 - 1 < j
 neg_above j h = omega arith
@@ -119,53 +120,83 @@ quotient false n d h = refl
 quotient true zero d h = rw (div-eq_of_lt h)
 quotient true (suc n) d h = refl
 
-module _ (a k : ℕ) (K : k ≡ units_at (exponent a) (fraction a) / units_of_one) where
-  cut : (s : Bool) → is_negative a ≡ s → truncated a ≡ with_sign s k
+module _ (a k : ℕ) (K : k ≡ units_at (exponent a) (fraction a) / units_of_one) (s : Bool) (g : is_negative a ≡ s) (f : is_finite a ≡ true) where
+  cut : truncated a ≡ with_sign s k
   unfolding truncated units
-  cut s g = quotient (is_negative a) (units_at (exponent a) (fraction a)) units_of_one (pow_pos 1074) ∙ ap₂ with_sign g (sym K)
+  cut = quotient (is_negative a) (units_at (exponent a) (fraction a)) units_of_one (pow_pos 1074) ∙ ap₂ with_sign g (sym K)
 
-  answer : (s : Bool) → is_negative a ≡ s → is_finite a ≡ true → within_integer (with_sign s k) ≡ real_to_integer a
+  answer : within_integer (with_sign s k) ≡ real_to_integer a
   unfolding real_to_integer
-  answer s g f = sym (ap (λ (t : Bool). cond t (within_integer (truncated a)) None) f ∙ ap within_integer (cut s g))
-
-  module _ (x : exponent a ≤ 1086) where
-    finite : is_finite a ≡ true
-    finite = ap not (ne_eqb (exponent a) 2047 (λ e. absurd (no (exponent a) x e)))
-      where
-        no : (n : ℕ) → n ≤ 1086 → n ≡ 2047 → ⊥
-        no n h e = omega arith
-
-    pub given_pos : a < 2 ^ 63 → k < 2 ^ 63 → Some k ≡ real_to_integer a
-    given_pos h l = within_pos k l ∙ answer false (lt-leb (2 ^ 63) a h) finite
-
-    pub refused_pos : a < 2 ^ 63 → 2 ^ 63 ≤ k → None ≡ real_to_integer a
-    refused_pos h l = beyond_pos k l ∙ answer false (lt-leb (2 ^ 63) a h) finite
-
-    pub given_neg : (r : ℕ) → 2 ^ 63 ≤ a → k ≤ 2 ^ 63 → r < 2 ^ 64 → (r + k) % 2 ^ 64 ≡ 0 → Some r ≡ real_to_integer a
-    given_neg r h l b e = within-neg k r l b e ∙ answer true (le-leb (2 ^ 63) a h) finite
-
-    pub refused-neg : 2 ^ 63 ≤ a → 2 ^ 63 < k → None ≡ real_to_integer a
-    refused-neg h l = beyond_neg k l ∙ answer true (le-leb (2 ^ 63) a h) finite
-
-over : (k : ℕ) → 2 ^ 64 ≤ k → 2 ^ 63 < k
-over k h = omega arith
-
-beyond : (s : Bool) (k : ℕ) → 2 ^ 63 < k → None ≡ within_integer (with_sign s k)
-beyond true k h = beyond_neg k h
-beyond false k h = beyond_pos k (le_of_lt h)
+  answer = sym (ap (λ (t : Bool). cond t (within_integer (truncated a)) None) f ∙ ap within_integer cut)
 
 unanswered : (a : ℕ) → is_finite a ≡ false → None ≡ real_to_integer a
 unfolding real_to_integer
 unanswered a f = sym (ap (λ (t : Bool). cond t (within_integer (truncated a)) None) f)
 
-pub refused_high : (a : ℕ) → 1086 < exponent a → None ≡ real_to_integer a
-refused_high a h = go (is_finite a) refl
-  where
-    go : (t : Bool) → is_finite a ≡ t → None ≡ real_to_integer a
-    go true f =
-        let k = units_at (exponent a) (fraction a) / units_of_one in
-        beyond (is_negative a) k (over k (cut_high (exponent a) (fraction a) h)) ∙ answer a k refl (is_negative a) refl f
-    go false f = unanswered a f
+-- ---- by the value
 
--- for the functions of convert.rt
-pub ruleset cuts = (cut_low, cut_down, cut_up, refused_high, given_pos, refused_pos, given_neg, refused-neg)
+abbrev pub Inside : Float → Type 0
+Inside x = (le (minus_two_to 63) x ≡ true) × (lt x (two_to 63) ≡ true)
+
+module _ (a : ℕ) (s : Bool) (m : ℕ) (e : ℤ) (E : of_bits binary64 a ≡ fin s m e) where
+  finite : is_finite a ≡ false → ⊥
+  finite f = no_value a s (m * up e) (down e) f (subst (λ (y : Float). HasValue y s (m * up e) (down e)) (sym E) (refl, refl))
+
+  value : is_finite a ≡ true → HasValue (fin s m e) (is_negative a) (units_at (exponent a) (fraction a)) units_of_one
+  value f = subst (λ (y : Float). HasValue y (is_negative a) (units_at (exponent a) (fraction a)) units_of_one) E (same_value a f)
+
+  whole_is : is_finite a ≡ true → m * up e / down e ≡ units_at (exponent a) (fraction a) / units_of_one
+  whole_is f = same_quotient (m * up e) (down e) (units_at (exponent a) (fraction a)) units_of_one (down_pos e) (pow_pos 1074) (value f).1
+
+  told : is_finite a ≡ true → within_integer (with_sign s (m * up e / down e)) ≡ real_to_integer a
+  told f = answer a (m * up e / down e) (whole_is f) s (sym (value f).0) f
+
+least : (k w : ℕ) → k < 2 ^ 63 → w ≡ min k (2 ^ 63 - 1) → w ≡ k
+least k w h e = omega arith
+
+least-neg : (k : ℕ) → k ≤ 2 ^ 63 → min k (2 ^ 63) ≡ k
+least-neg k h = omega arith
+
+given_fin : (a : ℕ) (s : Bool) (m : ℕ) (e : ℤ) (w : ℕ) → of_bits binary64 a ≡ fin s m e → Inside (fin s m e) → is_finite a ≡ true → w ≡ of_z w64 (to_signed 63 (fin s m e)) → Some w ≡ real_to_integer a
+unfolding lt le eq to_signed
+given_fin a false m e w E i f h =
+    let l = quotient_below (m * up e) (down e) (down_pos e) i.1 in
+    ap Some (least _ w l h) ∙ within_pos _ l ∙ told a false m e E f
+given_fin a true m e w E i f h =
+    let l = quotient_at_most (m * up e) (down e) (down_pos e) i.0 in
+    ap Some (h ∙ ap (λ (n : ℕ). of_z w64 (neg_ℤ (pos n))) (least-neg _ l)) ∙ within-neg _ l ∙ told a true m e E f
+
+pub given : (a : ℕ) (x : Float) (w : ℕ) → of_bits binary64 a ≡ x → Inside x → w ≡ of_z w64 (to_signed 63 x) → Some w ≡ real_to_integer a
+unfolding lt le eq
+given a nan w E i h = cc
+given a (inf true) w E i h = cc
+given a (inf false) w E i h = cc
+given a (fin s m e) w E i h = go (is_finite a) refl
+  where
+    go : (t : Bool) → is_finite a ≡ t → Some w ≡ real_to_integer a
+    go true f = given_fin a s m e w E i f h
+    go false f = absurd (finite a s m e E f)
+
+refused_fin : (a : ℕ) (s : Bool) (m : ℕ) (e : ℤ) → of_bits binary64 a ≡ fin s m e → (Inside (fin s m e) → ⊥) → is_finite a ≡ true → None ≡ real_to_integer a
+unfolding lt le eq
+refused_fin a false m e E i f = go (ltb (m * up e * 1) (1 * 2 ^ 63 * down e)) refl
+  where
+    go : (t : Bool) → ltb (m * up e * 1) (1 * 2 ^ 63 * down e) ≡ t → None ≡ real_to_integer a
+    go true t = absurd (i (rw (lt-ltb 0 (1 * 2 ^ 63 * down e + m * up e * 1) (omega (arith, down_pos e))), t))
+    go false t = beyond_pos _ (quotient_from (m * up e) (down e) (down_pos e) t) ∙ told a false m e E f
+refused_fin a true m e E i f = go (ltb (m * up e * 1) (1 * 2 ^ 63 * down e) || (eqb (1 * 2 ^ 63 * down e) (m * up e * 1) && true)) refl
+  where
+    go : (t : Bool) → ltb (m * up e * 1) (1 * 2 ^ 63 * down e) || (eqb (1 * 2 ^ 63 * down e) (m * up e * 1) && true) ≡ t → None ≡ real_to_integer a
+    go true t = absurd (i (t, lt-ltb 0 (m * up e * 1 + 1 * 2 ^ 63 * down e) (omega (arith, down_pos e))))
+    go false t =
+        beyond_neg _ (subst (λ (n : ℕ). 2 ^ 63 < n) (sym (whole_is a true m e E f)) (spaced-units a (units_above (m * up e) (down e) (down_pos e) _ t (value a true m e E f).1)))
+        ∙ told a true m e E f
+
+pub refused : (a : ℕ) (x : Float) → of_bits binary64 a ≡ x → (Inside x → ⊥) → None ≡ real_to_integer a
+refused a x E i = go (is_finite a) refl x E i
+  where
+    go : (t : Bool) → is_finite a ≡ t → (x : Float) → of_bits binary64 a ≡ x → (Inside x → ⊥) → None ≡ real_to_integer a
+    go false f x E i = unanswered a f
+    go true f nan E i = absurd (subst (λ (y : Float). HasValue y (is_negative a) (units_at (exponent a) (fraction a)) units_of_one) E (same_value a f))
+    go true f (inf s) E i = absurd (subst (λ (y : Float). HasValue y (is_negative a) (units_at (exponent a) (fraction a)) units_of_one) E (same_value a f))
+    go true f (fin s m e) E i = refused_fin a s m e E i f

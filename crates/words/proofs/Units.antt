@@ -49,7 +49,7 @@ pub record Read (b : ℕ) (s : Bool) (n : ℕ) : Type 0 where
   pub sign : is_negative b ≡ s
   pub size_is : units_at (exponent b) (fraction b) ≡ n
 
-no_value : (b : ℕ) (r : Bool) (a c : ℕ) → is_finite b ≡ false → HasValue (of_bits binary64 b) r a c → ⊥
+pub no_value : (b : ℕ) (r : Bool) (a c : ℕ) → is_finite b ≡ false → HasValue (of_bits binary64 b) r a c → ⊥
 unfolding of_bits
 no_value b r a c e v = fields_none (leb (2 ^ 63) b) (b % 2 ^ 63 / 2 ^ 52) (b % 2 ^ 52) r a c e v
 
@@ -87,7 +87,7 @@ round_read s n h =
     (subst (λ (x : Float). HasValue x s (rounded 53 (n * units_of_one)) units_of_one) (sym (of_bits-to_bits binary64 (round binary64 s n 1) (round-fits binary64 s n 1))) (round_value s n h))
 
 -- ---- the units of every word are a number of 53 digits with zeros after it
-pub with_lead : (t : ℕ) → t < 2 ^ 52 → 2 ^ 52 + t < 2 ^ 53
+with_lead : (t : ℕ) → t < 2 ^ 52 → 2 ^ 52 + t < 2 ^ 53
 with_lead t h = omega arith
 
 no_lead : (t : ℕ) → t < 2 ^ 52 → t < 2 ^ 53

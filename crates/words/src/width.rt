@@ -84,7 +84,7 @@ fn ashr_at(kind: u64, v: u64, n: u64) -> u64
 }
 
 // The shifted word, unless the count is negative.
-fn answer(count: u64, word: u64) -> Option<u64>
+fn unless_negative(count: u64, word: u64) -> Option<u64>
     ensures { result ≡ shifted (λ _. word) count }
 {
     if integer::is_negative(count) {
@@ -96,17 +96,17 @@ fn answer(count: u64, word: u64) -> Option<u64>
 pub fn shl(kind: u64, v: u64, count: u64) -> Option<u64>
     ensures { result ≡ shift_left (width_of kind) v count }
 {
-    answer(count, shl_at(kind, v, count))
+    unless_negative(count, shl_at(kind, v, count))
 }
 
 pub fn shr(kind: u64, v: u64, count: u64) -> Option<u64>
     ensures { result ≡ shift_right (width_of kind) v count }
 {
-    answer(count, shr_at(kind, v, count))
+    unless_negative(count, shr_at(kind, v, count))
 }
 
 pub fn ashr(kind: u64, v: u64, count: u64) -> Option<u64>
     ensures { result ≡ shift_right_arithmetic (width_of kind) v count }
 {
-    answer(count, ashr_at(kind, v, count))
+    unless_negative(count, ashr_at(kind, v, count))
 }

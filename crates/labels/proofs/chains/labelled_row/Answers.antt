@@ -1,12 +1,6 @@
 use Rattle.std.proofs.Common.{sym, ◌∙◌, arith}
-use Rattle.labels.proofs.ChainsLaws.{bucket_below, bucket_within, chained-below, walk_start, walk_met, walk_next, walk_ends}
+use Rattle.labels.proofs.ChainsLaws.{chained-below, walk_start, walk_met, walk_next, walk_ends}
 use Rattle.labels.proofs.chains.labelled_row.Goals as goal
-
-pub offset_bounds-heads-b : goal.offset_bounds-heads-b
-offset_bounds-heads-b c = record { fits = omega (arith, bucket_below c.args.label, c.bucket-b.ensures) }
-
-pub bounds-heads-b : goal.bounds-heads-b
-bounds-heads-b c = bucket_within _ c.bucket-b.ensures c.requires.2.buckets
 
 pub loop-n-init : goal.loop-n-init
 loop-n-init c = rw c.from-row.ensures (walk_start _ _ _ _ c.requires.2 _ _ c.bucket-b.ensures)

@@ -1,29 +1,7 @@
-use mathlib.Core.Path.{sym, ◌∙◌}
-use borrow.Author.Tests.{not-true, not-false}
-use Rattle.tables.specs.Outcome.{◌>>=◌, ◌>>◌, need}
-use Rattle.loader.specs.Load.{load_row_look}
-use Rattle.loader.proofs.Loaded.{whole-nodes}
+use Rattle.std.proofs.Common.{ap, ◌∙◌}
+use Rattle.loader.specs.Load.{chosen_look}
+use Rattle.loader.proofs.LooksLaws.{row_look}
 use Rattle.loader.proofs.load.load_row.Goals as goal
 
-pub returns-then-not-whole_tables : goal.returns-then-not-whole_tables
-unfolding load_row_look ◌>>=◌ ◌>>◌ need
-returns-then-not-whole_tables c = rw (sym c.whole_tables.ensures ∙ not-true _ c.if-not-whole_tables.true-raw)
-
-pub allowed_tables-requires : goal.allowed_tables-requires
-allowed_tables-requires c = whole-nodes _ (sym c.whole_tables.ensures ∙ not-false _ c.if-not-whole_tables.false-raw)
-
-pub returns-then-not-allowed_tables : goal.returns-then-not-allowed_tables
-unfolding load_row_look ◌>>=◌ ◌>>◌ need
-returns-then-not-allowed_tables c = rw (sym c.whole_tables.ensures ∙ not-false _ c.if-not-whole_tables.false-raw, sym c.allowed_tables.ensures ∙ not-true _ c.if-not-allowed_tables.true-raw)
-
-pub returns-then-not-chosen_row : goal.returns-then-not-chosen_row
-unfolding load_row_look ◌>>=◌ ◌>>◌ need
-returns-then-not-chosen_row c = rw (sym c.whole_tables.ensures ∙ not-false _ c.if-not-whole_tables.false-raw, sym c.allowed_tables.ensures ∙ not-false _ c.if-not-allowed_tables.false-raw, sym c.chosen_row.ensures ∙ not-true _ c.if-not-chosen_row.true-raw)
-
-pub returns-then-not-distinct_tables : goal.returns-then-not-distinct_tables
-unfolding load_row_look ◌>>=◌ ◌>>◌ need
-returns-then-not-distinct_tables c = rw (sym c.whole_tables.ensures ∙ not-false _ c.if-not-whole_tables.false-raw, sym c.allowed_tables.ensures ∙ not-false _ c.if-not-allowed_tables.false-raw, sym c.chosen_row.ensures ∙ not-false _ c.if-not-chosen_row.false-raw, sym c.distinct_tables.ensures ∙ not-true _ c.if-not-distinct_tables.true-raw)
-
 pub returns : goal.returns
-unfolding load_row_look ◌>>=◌ ◌>>◌ need
-returns c = rw (sym c.whole_tables.ensures ∙ not-false _ c.if-not-whole_tables.false-raw, sym c.allowed_tables.ensures ∙ not-false _ c.if-not-allowed_tables.false-raw, sym c.chosen_row.ensures ∙ not-false _ c.if-not-chosen_row.false-raw, sym c.distinct_tables.ensures ∙ not-false _ c.if-not-distinct_tables.false-raw)
+returns c = c.look_at_tables.ensures ∙ (ap (chosen_look _) c.chosen_row-chosen.ensures ∙ row_look _ _ _)
