@@ -1,8 +1,9 @@
 -- A call that begins with the loader's looks.
-use Rattle.std.specs.Prelude.{ℕ, Ok, Err}
+use Rattle.std.specs.Prelude.{Ok, Err}
+use Rattle.tables.specs.declared.refusal.Refusal.{Refusal}
 use Rattle.tables.specs.Outcome.{Outcome}
 
 -- what is answered to the looks' refusal, or the rest of the call
-abbrev pub after : {A B : Type 0} → Outcome A → (ℕ → B) → B → B
+abbrev pub after : {A B : Type 0} → Outcome A → (Refusal → B) → B → B
 after (Ok a) refused rest = rest
-after (Err number) refused rest = refused number
+after (Err r) refused rest = refused r

@@ -10,7 +10,7 @@ use Rattle.type_check.specs.Check.{check_of}
 use Rattle.console.specs.Answer.{after}
 
 abbrev pub verdict_answer : Result (Unit {0}) TypeError → Result (Unit {0}) ProgramError
-verdict_answer (Ok _) = (Ok tt)
+verdict_answer (Ok _) = Ok tt
 verdict_answer (Err e) = Err (P.Type e)
 
 unfoldable pub check_tables : Tables → Result (Unit {0}) ProgramError

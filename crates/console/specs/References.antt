@@ -2,6 +2,7 @@
 use Rattle.tables.specs.Refusal.{refusal_number}
 use Rattle.tables.specs.Outcome.{Outcome}
 use Rattle.memory.specs.declared.batch.Handed.{Handed}
+use Rattle.memory.specs.declared.MemoryReference.{MemoryReference}
 use Rattle.memory.specs.declared.Stepped.{Stepped}
 use Rattle.std.specs.Prelude.{ℕ, List, [], ◌∷◌, Option, Some, None, Ok, Err}
 use Rattle.loader.specs.Load.{load_nodes_look}

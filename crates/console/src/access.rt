@@ -7,6 +7,7 @@ ghost use Rattle.console.specs.Access.{access_tables};
 use access_sets::access::access_call;
 use loader::load::load_row;
 use tables::family::CALL;
+use tables::refusal::Refusal;
 use tables::rows::instruction_at;
 
 pub fn access(
@@ -22,7 +23,7 @@ pub fn access(
 ) -> Result<(usize, usize), Refusal>
     ensures { accessing result reads.new writes.new ≡ access_tables (tables_of regions.now externs.now parameters.now nodes.now arguments.now instructions.now) row reads.old writes.old }
 {
-    let loaded = load_row(
+    load_row(
         regions,
         externs,
         parameters,
@@ -31,10 +32,7 @@ pub fn access(
         instructions,
         row,
         CALL,
-    );
-    if let Err(number) = loaded {
-        return Err(number);
-    }
+    )?;
     let x = instruction_at(instructions, row);
     access_call(externs, parameters, arguments, x, reads, writes)
 }

@@ -1,20 +1,11 @@
 // The type check of a program.
 ghost use Rattle.std.specs.Prelude.{◌≡◌};
 ghost use Rattle.tables.specs.Tables.{tables_of};
-ghost use Rattle.console.specs.Check.{verdict_answer, check_tables};
+ghost use Rattle.console.specs.Check.{check_tables};
 
 use loader::load::load_tables;
 use type_check::program::check_program;
-use type_rules::error::{ProgramError, TypeError};
-
-fn verdict_answer(verdict: Result<(), TypeError>) -> Result<(), ProgramError>
-    ensures { result ≡ verdict_answer verdict }
-{
-    match verdict {
-        Ok(()) => Ok(()),
-        Err(error) => Err(ProgramError::Type(error)),
-    }
-}
+use type_rules::error::ProgramError;
 
 pub fn check(
     regions: &[u64],
@@ -26,9 +17,7 @@ pub fn check(
 ) -> Result<(), ProgramError>
     ensures { result ≡ check_tables (tables_of regions.now externs.now parameters.now nodes.now arguments.now instructions.now) }
 {
-    let loaded = load_tables(regions, externs, parameters, nodes, arguments, instructions);
-    if let Err(number) = loaded {
-        return Err(ProgramError::Refused(number));
-    }
-    verdict_answer(check_program(regions, nodes, instructions))
+    load_tables(regions, externs, parameters, nodes, arguments, instructions)?;
+    check_program(regions, nodes, instructions)?;
+    Ok(())
 }

@@ -3,12 +3,29 @@ ghost use Rattle.std.specs.Prelude.{◌≡◌};
 ghost use Rattle.tables.specs.Tables.{tables_of};
 ghost use Rattle.console.specs.Frame.{frame_answer, frame_tables};
 
-use crate::frame::FrameError;
 use loader::load::load_row;
 use tables::family::FRAME;
+use tables::refusal::Refusal;
 use tables::rows::instruction_at;
 use type_check::frame::{FrameCheck, check_frame};
 use type_rules::error::TypeError;
+
+// Why a frame is turned down: a refusal; or 5, with the type error and how many nodes were looked at.
+#[derive(Clone, Copy, PartialEq, Eq, Debug)]
+pub enum FrameError {
+    Refused(Refusal),
+    Type(TypeError, u64),
+}
+
+impl From<Refusal> for FrameError {
+    ghost use Rattle.console.specs.declared.frame.FrameError.{FrameError};
+
+    ghost from_gives = { λ r e. e ≡ FrameError.Refused r };
+
+    fn from(refusal: Refusal) -> Self {
+        FrameError::Refused(refusal)
+    }
+}
 
 fn frame_answer(checked: FrameCheck) -> Result<u64, FrameError>
     ensures { result ≡ frame_answer checked }
@@ -31,7 +48,7 @@ pub fn frame(
 ) -> Result<u64, FrameError>
     ensures { result ≡ frame_tables (tables_of regions.now externs.now parameters.now nodes.now arguments.now instructions.now) row }
 {
-    let loaded = load_row(
+    load_row(
         regions,
         externs,
         parameters,
@@ -40,10 +57,7 @@ pub fn frame(
         instructions,
         row,
         FRAME,
-    );
-    if let Err(number) = loaded {
-        return Err(FrameError::Refused(number));
-    }
+    )?;
     let x = instruction_at(instructions, row);
     frame_answer(check_frame(regions, nodes, row as u64, x))
 }

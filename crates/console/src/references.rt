@@ -5,15 +5,18 @@ ghost use Rattle.console.specs.References.{references_table, referencing, refere
 use loader::load::load_nodes;
 use memory::batch::{Handed, references_in};
 use memory::{Stepped, next_in};
+use tables::refusal::Refusal;
 
 // The next reference of the tree of `count` nodes from `first` on, of which `place` nodes were passed.
-pub fn memory_references(nodes: &[u64], first: u64, count: u64, place: usize) -> Result<Stepped, Refusal>
+pub fn memory_references(
+    nodes: &[u64],
+    first: u64,
+    count: u64,
+    place: usize,
+) -> Result<Stepped, Refusal>
     ensures { result ≡ references_table nodes.now first count place }
 {
-    let loaded = load_nodes(nodes, first, count);
-    if let Err(number) = loaded {
-        return Err(number);
-    }
+    load_nodes(nodes, first, count)?;
     Ok(next_in(nodes, first, count, place))
 }
 
@@ -27,9 +30,6 @@ pub fn references(
 ) -> Result<Handed, Refusal>
     ensures { referencing result rows.new ≡ references_list nodes.now first count place rows.old }
 {
-    let loaded = load_nodes(nodes, first, count);
-    if let Err(number) = loaded {
-        return Err(number);
-    }
+    load_nodes(nodes, first, count)?;
     Ok(references_in(nodes, first, count, place, rows))
 }

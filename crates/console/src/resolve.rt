@@ -21,7 +21,7 @@ pub fn resolve(
 ) -> Result<usize, ResolveError>
     ensures { resolving result rows.new ≡ resolve_tables (tables_of regions.now externs.now parameters.now nodes.now arguments.now instructions.now) row rows.old }
 {
-    let loaded = load_row(
+    load_row(
         regions,
         externs,
         parameters,
@@ -30,10 +30,7 @@ pub fn resolve(
         instructions,
         row,
         CALL,
-    );
-    if let Err(number) = loaded {
-        return Err(ResolveError::Refused(number));
-    }
+    )?;
     let x = instruction_at(instructions, row);
     resolve_call(regions, externs, parameters, arguments, x, rows)
 }

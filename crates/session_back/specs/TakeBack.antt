@@ -12,4 +12,3 @@ unfoldable pub take_back_look : List ℕ → ℕ → List ℕ → Position → O
 take_back_look instructions cells journal p = do
   need (position_fits instructions (entries_of (length journal)) p) foreign_position
   journal_look instructions cells journal p
-

@@ -1,21 +1,15 @@
 -- Forward's parts: the row at a position, what its functions ask for, a step's end (13 or the writes), and a step in a memory whose first words are the cells.
 -- Assumes nothing.
-use Rattle.session.specs.Answer.{StepAnswer}
-use Rattle.std.proofs.Common.{Ok, Err}
-use Prim.Native.Nat.{ℕ, ◌+◌, ◌*◌, ◌-◌, ◌<◌, ◌≤◌}
-use mathlib.Core.Bool.{Bool, true, false}
-use mathlib.Core.List.{List, [], ◌∷◌, ◌++◌}
-use mathlib.Core.Path.{◌≡◌, refl}
-use native.Mathlib.Omega.{arith}
-use lib.ListN.{length, take, drop}
-use lib.Dec.{ltb, leb}
+use Rattle.std.proofs.Common.{ℕ, ◌+◌, ◌*◌, ◌-◌, ◌<◌, ◌≤◌, Bool, true, false, List, [], ◌∷◌, ◌++◌, ◌≡◌, refl, arith, length, take, drop, ltb, leb, Ok, Err}
 use borrow.Author.Tests.{ltb-true, leb-true}
-use Rattle.tables.specs.Outcome.{Outcome, ◌>>=◌, ◌>>◌, need}
+use Rattle.tables.specs.declared.refusal.Refusal.{Refusal}
+use Rattle.tables.specs.Refusal.{foreign_position, at_end, journal_full}
+use Rattle.tables.specs.Outcome.{◌>>=◌, ◌>>◌, need}
 use Rattle.tables.specs.Tables.{Tables}
 use Rattle.tables.specs.Rows.{instruction_rows, instruction_at}
 use Rattle.word_rules.specs.Instruction as I
 use Rattle.tables.specs.declared.rows.Instruction.{Instruction}
-use Rattle.loader.proofs.Loaded.{Loaded, loaded, few-instructions, instruction_allowed_lem, call-arguments, extern_parameters}
+use Rattle.loader.proofs.Loaded.{loaded, few-instructions, instruction_allowed_lem, call-arguments, extern_parameters}
 use Rattle.tables.proofs.Passed.{both, passed}
 use Rattle.journal.specs.declared.cells.Write.{Write}
 use Rattle.journal.specs.Each.{Each, none, also}
@@ -29,6 +23,7 @@ use Rattle.operands.specs.Reach.{There, Layout}
 use Rattle.operands.proofs.Reaches.{in_cells}
 use Rattle.machine.proofs.WritesLaws.{Within}
 use Rattle.tables.specs.Cells.{cell_count}
+use Rattle.session.specs.Answer.{StepAnswer}
 use Rattle.session.specs.Prepare.{entries_of, prepared_of, Ready}
 use Rattle.session.specs.Position.{position_fits, room_for}
 use Rattle.session.proofs.Prepared.{prepared}
@@ -45,13 +40,13 @@ module _ (t : Tables) (cells : List ℕ) (entries : ℕ) (p : Position) (reply :
   row_look_lem = at (position_fits t.instructions entries p) (ltb p.row (instruction_rows t.instructions))
     where
       at : (a b : Bool)
-          → (need a 19 >> (need b 11 >> (outcome_of t cells (instruction_at t.instructions p.row) reply >>= room_for entries p)))
-          ≡ ((need a 19 >> (need b 11 >> Ok (instruction_at t.instructions p.row))) >>= (λ x. outcome_of t cells x reply >>= room_for entries p))
+          → (need a foreign_position >> (need b at_end >> (outcome_of t cells (instruction_at t.instructions p.row) reply >>= room_for entries p)))
+          ≡ ((need a foreign_position >> (need b at_end >> Ok (instruction_at t.instructions p.row))) >>= (λ x. outcome_of t cells x reply >>= room_for entries p))
       at true true = refl
       at true false = refl
       at false b = refl
 
-  pub row-refused : {number : ℕ} → current_row t.instructions entries p ≡ Err number → row_look t cells entries p reply ≡ Err number
+  pub row-refused : {number : Refusal} → current_row t.instructions entries p ≡ Err number → row_look t cells entries p reply ≡ Err number
   unfolding ◌>>=◌
   row-refused e = rw (row_look_lem, e)
 
@@ -123,7 +118,7 @@ pub room-words : (journal n : ℕ) (p : Position) → leb (n + 1) (entries_of jo
 room-words journal n p e = omega (arith, leb-true (n + 1) (entries_of journal - p.used) e)
 
 module _ (cells journal : List ℕ) (p : Position) (next : ℕ) (ws : List Write) (n : ℕ) (e : length ws ≡ n) where
-  pub full : leb (n + 1) (entries_of (length journal) - p.used) ≡ false → left (Err (13, p)) cells journal ≡ row_leaves cells journal p next (Ok ws)
+  pub full : leb (n + 1) (entries_of (length journal) - p.used) ≡ false → left (Err (journal_full, p)) cells journal ≡ row_leaves cells journal p next (Ok ws)
   unfolding row_leaves room_for stepped ◌>>=◌ ◌>>◌ need
   full h = rw (e, h)
 
@@ -147,7 +142,7 @@ module _ (t : Tables) (memory journal : List ℕ) (p : Position) (reply : List �
   forward_look_lem = placed_then t (length memory) (length journal) p (λ n. step_look t (take (cell_width * n) memory) (entries_of (length journal)) p reply)
 
   -- 1, 2, 3, 10 or 4
-  pub forward_unprepared : {number : ℕ} → prepared_of t (length memory) (length journal) ≡ Err number
+  pub forward_unprepared : {number : Refusal} → prepared_of t (length memory) (length journal) ≡ Err number
       → left (Err (number, p)) memory journal ≡ forward_tables t memory journal p reply
   unfolding forward_tables stepped ◌>>=◌
   forward_unprepared {number} e = rw (forward_look_lem, e) (all_kept (cell_width * cell_count t.regions) memory (λ cells. stepped cells journal p (leads cells) (Err number)) refl)

@@ -1,5 +1,5 @@
 -- How forward takes one row in the code, behind 1, 2, 3, 10 and 4: the row at the position, then what the row's outcome leaves.
-use Rattle.std.specs.Prelude.{ℕ, ◌+◌, ◌*◌, ◌<◌, ◌≤◌, true, List, ◌≡◌, length, ltb, Ok}
+use Rattle.std.specs.Prelude.{ℕ, ◌<◌, ◌≤◌, true, List, ◌≡◌, length, ltb, Ok}
 use Rattle.tables.specs.Refusal.{foreign_position, at_end}
 use Rattle.tables.specs.Outcome.{Outcome, ◌>>=◌, ◌>>◌, need}
 use Rattle.tables.specs.Tables.{Tables}

@@ -1,6 +1,5 @@
 // A row that is no CALL: its outcome, then its writes with their entries.
-ghost use Rattle.std.specs.Prelude.{◌≡◌, List, [], ◌∷◌, ℕ, length};
-ghost use Rattle.tables.specs.Outcome.{ok};
+ghost use Rattle.std.specs.Prelude.{◌≡◌, List, [], ◌∷◌, ℕ, length, Ok};
 ghost use Rattle.operands.specs.Reach.{There};
 ghost use Rattle.machine.specs.Outcome.{plain_outcome};
 ghost use Rattle.machine.specs.Reach.{Opened};
@@ -10,7 +9,7 @@ ghost use Rattle.session_forward.specs.Step.{row_leaves, Placed};
 use journal::cells::Write;
 use journal::entries::{ENTRY_WIDTH, close, write_one, write_two};
 use journal::position::Position;
-use machine::outcome::{RowOutcome, plain_outcome};
+use machine::outcome::{Writes, plain_outcome};
 use session::answer::StepAnswer;
 use session::position::has_room;
 use tables::refusal::Refusal;
@@ -19,7 +18,7 @@ use tables::rows::Instruction;
 // A step that writes nothing; the cells stay, whatever they are.
 fn step_none(journal: &mut [u64], p: Position, next: usize) -> StepAnswer
     requires { Placed (length journal.old) p }
-    ensures { (cells : List ℕ) → left result cells journal.new ≡ row_leaves cells journal.old p next (ok []) }
+    ensures { (cells : List ℕ) → left result cells journal.new ≡ row_leaves cells journal.old p next (Ok []) }
 {
     let used = p.used;
     let row = p.row;
@@ -38,7 +37,7 @@ fn step_one(
     w: Write,
 ) -> StepAnswer
     requires { (Placed (length journal.old) p) × (There cells.old w.cell) }
-    ensures { left result cells.new journal.new ≡ row_leaves cells.old journal.old p next (ok (w ∷ [])) }
+    ensures { left result cells.new journal.new ≡ row_leaves cells.old journal.old p next (Ok (w ∷ [])) }
 {
     let used = p.used;
     let row = p.row;
@@ -59,7 +58,7 @@ fn step_two(
     w: Write,
 ) -> StepAnswer
     requires { (Placed (length journal.old) p) × (There cells.old v.cell) × (There cells.old w.cell) }
-    ensures { left result cells.new journal.new ≡ row_leaves cells.old journal.old p next (ok (v ∷ w ∷ [])) }
+    ensures { left result cells.new journal.new ≡ row_leaves cells.old journal.old p next (Ok (v ∷ w ∷ [])) }
 {
     let used = p.used;
     let row = p.row;
@@ -83,11 +82,10 @@ pub fn plain_step(
     requires { (Opened regions.now cells.old x) × (Placed (length journal.old) p) }
     ensures { left result cells.new journal.new ≡ row_leaves cells.old journal.old p next (plain_outcome regions.now cells.old x reply.now) }
 {
-    let outcome = plain_outcome(regions, cells, x, reply);
-    match outcome {
-        RowOutcome::Refused(number) => Err((number, p)),
-        RowOutcome::NoWrites => step_none(journal, p, next),
-        RowOutcome::One(w) => step_one(cells, journal, p, next, w),
-        RowOutcome::Two(v, w) => step_two(cells, journal, p, next, v, w),
+    match plain_outcome(regions, cells, x, reply) {
+        Err(refusal) => Err((refusal, p)),
+        Ok(Writes::Nothing) => step_none(journal, p, next),
+        Ok(Writes::One(w)) => step_one(cells, journal, p, next, w),
+        Ok(Writes::Two(v, w)) => step_two(cells, journal, p, next, v, w),
     }
 }

@@ -84,9 +84,8 @@ pub fn step_row(
     requires { Steppable regions.now externs.now parameters.now arguments.now instructions.now cells.old (length journal.old) × LabelsKnown instructions.now fit targets.now }
     ensures { (nodes : List ℕ) → left result cells.new journal.new ≡ stepped cells.old journal.old p (next_row regions.now instructions.now cells.old p.row) (row_look (tables_of regions.now externs.now parameters.now nodes arguments.now instructions.now) cells.old (entries_of (length journal.old)) p reply.now) }
 {
-    let here = row_here(instructions, journal.len() / ENTRY_WIDTH, p);
-    match here {
-        Err(number) => Err((number, p)),
+    match row_here(instructions, journal.len() / ENTRY_WIDTH, p) {
+        Err(refusal) => Err((refusal, p)),
         Ok(x) => any_step(
             regions,
             externs,

@@ -1,15 +1,7 @@
-use Prim.Native.Nat.{◌+◌, ◌-◌}
-use mathlib.Core.Bool.{Bool}
-use mathlib.Core.List.{List}
-use mathlib.Core.Path.{◌≡◌, sym, ◌∙◌}
-use native.Mathlib.Omega.{arith}
-use lib.ListN.{length}
-use lib.Dec.{leb}
-use borrow.Author.Tests.{not-true, not-false}
+use Rattle.std.proofs.Common.{List, length, ◌≡◌, sym, ◌∙◌, arith}
 use Rattle.journal.specs.declared.cells.Write.{Write}
 use Rattle.call_reply.specs.Call.{reply_rows, reply_writes}
 use Rattle.call_reply.proofs.ReplyLaws.{reply_writes-length}
-use Rattle.session.specs.Prepare.{entries_of}
 use Rattle.session_forward.proofs.StepLaws.{room-words, full, roomy}
 use Rattle.session_forward.proofs.call_step.reply_step.Goals as goal
 
@@ -20,13 +12,11 @@ pub returns-then-not-has_room : goal.returns-then-not-has_room
 returns-then-not-has_room c =
     let writes : List Write = reply_writes c.args.regions.now c.args.parameters.now c.args.arguments.now c.args.call c.args.reply.now in
     let rows : length writes ≡ reply_rows c.args.reply.now = reply_writes-length c.args.regions.now c.args.parameters.now c.args.arguments.now c.args.call c.args.reply.now in
-    let room : (b : Bool) → c.has_room.result ≡ b → leb (reply_rows c.args.reply.now + 1) (entries_of (length c.args.journal.now) - c.args.p.used) ≡ b = λ b e. sym c.has_room.ensures ∙ e in
-    full c.args.cells.now c.args.journal.now c.args.p c.args.next writes (reply_rows c.args.reply.now) rows (room _ (not-true _ c.if-not-has_room.true-raw))
+    full c.args.cells.now c.args.journal.now c.args.p c.args.next writes (reply_rows c.args.reply.now) rows (sym c.has_room.ensures ∙ c.if-not-has_room.true)
 
 pub write_reply-requires : goal.write_reply-requires
 write_reply-requires c =
-    let room : (b : Bool) → c.has_room.result ≡ b → leb (reply_rows c.args.reply.now + 1) (entries_of (length c.args.journal.now) - c.args.p.used) ≡ b = λ b e. sym c.has_room.ensures ∙ e in
-    (c.requires.0, room-words _ _ c.args.p (room _ (not-false _ c.if-not-has_room.false-raw)))
+    (c.requires.0, room-words _ _ c.args.p (sym c.has_room.ensures ∙ c.if-not-has_room.false))
 
 pub advance-requires : goal.advance-requires
 advance-requires c =
@@ -36,5 +26,4 @@ pub returns : goal.returns
 returns c =
     let writes : List Write = reply_writes c.args.regions.now c.args.parameters.now c.args.arguments.now c.args.call c.args.reply.now in
     let rows : length writes ≡ reply_rows c.args.reply.now = reply_writes-length c.args.regions.now c.args.parameters.now c.args.arguments.now c.args.call c.args.reply.now in
-    let room : (b : Bool) → c.has_room.result ≡ b → leb (reply_rows c.args.reply.now + 1) (entries_of (length c.args.journal.now) - c.args.p.used) ≡ b = λ b e. sym c.has_room.ensures ∙ e in
-    roomy c.args.cells.now c.args.journal.now c.args.p c.args.next writes (reply_rows c.args.reply.now) rows (room _ (not-false _ c.if-not-has_room.false-raw)) c.advance.ensures c.write_reply.ensures.cells_after c.write_reply.ensures.journal_after
+    roomy c.args.cells.now c.args.journal.now c.args.p c.args.next writes (reply_rows c.args.reply.now) rows (sym c.has_room.ensures ∙ c.if-not-has_room.false) c.advance.ensures c.write_reply.ensures.cells_after c.write_reply.ensures.journal_after
