@@ -61,8 +61,7 @@ pub fn play(text: &[u8]) {
     let mut position = [0; 3];
     let mut place = [0; 1];
     let mut at = 0;
-    let mut turns = text.len();
-    while turns > 0 {
+    for _ in 0..text.len() {
         let token = token_at(text, at);
         if token.is_end() {
             return;
@@ -77,6 +76,5 @@ pub fn play(text: &[u8]) {
             &mut position,
             &mut place,
         );
-        turns -= 1;
     }
 }
