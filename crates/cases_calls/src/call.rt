@@ -1,5 +1,5 @@
 // A call on what is lent, and the line that tells of it.
-use crate::lent::{JOURNAL, JOURNAL_WORDS, MEMORY, MEMORY_WORDS, length_of};
+use crate::lent::{JOURNAL_WORDS, List, MEMORY_WORDS, length_of};
 use crate::print::{UNWRITTEN, changes, text};
 use crate::{kept, steps};
 
@@ -63,8 +63,8 @@ pub fn call(
     position: &mut [u64; 3],
     place: &mut [u64; 1],
 ) {
-    let words = length_of(tables, MEMORY).min(memory.len());
-    let entries = length_of(tables, JOURNAL).min(journal.len());
+    let words = length_of(tables, List::Memory).min(memory.len());
+    let entries = length_of(tables, List::Journal).min(journal.len());
     told(
         sign,
         tables,
