@@ -57,8 +57,7 @@ fn write_reply(
     ensures journal_after { journal.new ≡ journaled journal.old used row cells.old (reply_writes regions.now parameters.now arguments.now call reply.now) }
 {
     let rows = reply.len() / REPLY_WIDTH;
-    let mut k = 0;
-    while k < rows {
+    for k in 0..rows {
         write_row(
             regions,
             parameters,
@@ -70,7 +69,6 @@ fn write_reply(
             reply,
             k,
         );
-        k += 1;
     }
     close(journal, used + rows, rows, row);
 }

@@ -90,9 +90,8 @@ pub fn run_rows(
     requires { Steppable regions.now externs.now parameters.now arguments.now instructions.now cells.old (length journal.old) × LabelsKnown instructions.now fit targets.now }
     ensures { (nodes : List ℕ) → running result cells.new journal.new ≡ run_by (cell_step (tables_of regions.now externs.now parameters.now nodes arguments.now instructions.now)) instructions.now allowance 0 cells.old journal.old p }
 {
-    let mut taken = 0;
     let mut position = p;
-    while taken < allowance {
+    for taken in 0..allowance {
         let turn = take_turn(
             regions,
             externs,
@@ -107,13 +106,10 @@ pub fn run_rows(
         );
         match turn {
             Turn::Stopped(stop, at) => return RunAnswer::Ran(taken, stop, at),
-            Turn::Moved(next) => {
-                position = next;
-                taken += 1;
-            }
+            Turn::Moved(next) => position = next,
         }
     }
-    RunAnswer::Ran(taken, Stop::Allowance, position)
+    RunAnswer::Ran(allowance, Stop::Allowance, position)
 }
 
 // Run behind 1, 2, 3, 10 and 4: the position and the labels of the program are looked at once, and each jump's target is found.
