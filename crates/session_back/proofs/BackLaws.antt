@@ -1,14 +1,8 @@
 -- What back's looks have seen where they refuse nothing, and back in a memory whose first words are the cells. Assumes nothing.
-use Prim.Native.Nat.{ℕ, ◌*◌, ◌/◌, ◌<◌, ◌≤◌}
-use mathlib.Core.Bool.{true}
-use mathlib.Core.List.{List, ◌++◌}
-use mathlib.Core.Path.{◌≡◌, refl}
-use native.Mathlib.Omega.{arith}
-use lib.ListN.{length, take, drop}
+use Rattle.std.proofs.Common.{ℕ, ◌*◌, ◌/◌, ◌<◌, ◌≤◌, true, ltb, List, ◌++◌, length, take, drop, Result, Ok, ◌≡◌, refl, arith}
 use lib.Seq.{length-take-le}
-use lib.Dec.{ltb}
 use borrow.Author.Tests.{ltb-true}
-use Rattle.tables.specs.Outcome.{Outcome, ok, refuse, ◌>>=◌}
+use Rattle.tables.specs.Outcome.{Outcome, ok, refuse, ◌>>=◌, seen}
 use Rattle.tables.specs.Tables.{Tables}
 use Rattle.tables.specs.Rows.{instruction_rows}
 use Rattle.tables.specs.Cells.{cell_count}
@@ -26,7 +20,7 @@ use Rattle.session.proofs.Prepared.{prepared}
 use Rattle.session.proofs.PositionLaws.{fits, placed_then}
 use Rattle.session.proofs.LeavesLaws.{tail_kept, all_kept}
 use Rattle.session_back.specs.Back.{last_changes, last_row, first_entry, journal_look, back_look, backed, taken_back, back_tables}
-use Rattle.session_back.specs.TakeBack.{take_back_look}
+use Rattle.session_back.specs.TakeBack.{take_back_look, take_back_outcome}
 
 -- a step with so many changes that can be taken back
 pub record TakesBack (cells : ℕ) (journal : List ℕ) (p : Position) (changes : ℕ) : Type 0 where
@@ -52,6 +46,11 @@ takes_back instructions cells journal p {changes} e =
       before = rw q at (ltb-true n p.used b);
       readable = rw q at r;
     }
+
+-- the same, of the answer of the code
+pub told_changes : (instructions : List ℕ) (cells : ℕ) (journal : List ℕ) (p : Position) {r : Result ℕ ℕ} {changes : ℕ}
+    → take_back_outcome r ≡ take_back_look instructions cells journal p → r ≡ Ok changes → TakesBack cells journal p changes
+told_changes instructions cells journal p e f = takes_back instructions cells journal p (seen take_back_outcome e f)
 
 -- what is left of the cells
 pub took_back : (cells journal : List ℕ) (p : Position) {o : Outcome ℕ} {changes row : ℕ} {q : Position} {cells' : List ℕ} → o ≡ ok changes

@@ -1,13 +1,11 @@
 -- How back's looks answer in the code, behind 1, 2, 3, 10 and 4.
-use Rattle.std.specs.Prelude.{ℕ, List, length}
+use Rattle.std.specs.Prelude.{ℕ, List, length, Result, Ok, Err}
 use Rattle.tables.specs.Refusal.{foreign_position}
 use Rattle.tables.specs.Outcome.{Outcome, ok, refuse, ◌>>◌, need}
 use Rattle.journal.specs.declared.position.Position.{Position}
 use Rattle.session.specs.Prepare.{entries_of}
 use Rattle.session.specs.Position.{position_fits}
 use Rattle.session_back.specs.Back.{journal_look}
-use Rattle.session_back.specs.declared.take_back.TakeBack.{TakeBack}
-use Rattle.session_back.specs.declared.take_back.TakeBack.TheVariants.{Changes, Refused}
 
 -- from 19 on, of the instructions and so many cells: the change count
 unfoldable pub take_back_look : List ℕ → ℕ → List ℕ → Position → Outcome ℕ
@@ -16,6 +14,6 @@ take_back_look instructions cells journal p = do
   journal_look instructions cells journal p
 
 -- the change count, or the refusal's number
-abbrev pub take_back_outcome : TakeBack → Outcome ℕ
-take_back_outcome (Changes n) = ok n
-take_back_outcome (Refused number) = refuse number
+abbrev pub take_back_outcome : Result ℕ ℕ → Outcome ℕ
+take_back_outcome (Ok n) = ok n
+take_back_outcome (Err number) = refuse number

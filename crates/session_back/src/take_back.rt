@@ -14,37 +14,36 @@ use tables::refusal::{FOREIGN_POSITION, NOTHING_TO_TAKE_BACK};
 use tables::rows::INSTRUCTION_WIDTH;
 
 // The change count of the last step, or a refusal by its number.
-#[derive(Drop)]
-pub enum TakeBack {
-    Changes(usize),
-    Refused(u64),
-}
-
-fn look_back(instructions: &[u64], cells: usize, journal: &[u64], p: Position) -> TakeBack
+fn look_back(
+    instructions: &[u64],
+    cells: usize,
+    journal: &[u64],
+    p: Position,
+) -> Result<usize, u64>
     ensures { take_back_outcome result ≡ take_back_look instructions.now cells journal.now p }
 {
     let done = p.done;
     let used = p.used;
     if !position_fits(instructions, journal.len() / ENTRY_WIDTH, p) {
-        return TakeBack::Refused(FOREIGN_POSITION);
+        return Err(FOREIGN_POSITION);
     }
     if done == 0 {
-        return TakeBack::Refused(NOTHING_TO_TAKE_BACK);
+        return Err(NOTHING_TO_TAKE_BACK);
     }
     if used == 0 {
-        return TakeBack::Refused(FOREIGN_POSITION);
+        return Err(FOREIGN_POSITION);
     }
     let changes = changes_at(journal, used - 1);
     if used <= changes {
-        return TakeBack::Refused(FOREIGN_POSITION);
+        return Err(FOREIGN_POSITION);
     }
     if !readable(journal, used - (changes + 1), changes, cells) {
-        return TakeBack::Refused(FOREIGN_POSITION);
+        return Err(FOREIGN_POSITION);
     }
     if instructions.len() / INSTRUCTION_WIDTH <= row_left_at(journal, used - 1) {
-        return TakeBack::Refused(FOREIGN_POSITION);
+        return Err(FOREIGN_POSITION);
     }
-    TakeBack::Changes(changes)
+    Ok(changes)
 }
 
 pub fn take_back(
@@ -58,8 +57,8 @@ pub fn take_back(
     let used = p.used;
     let look = look_back(instructions, cells.len() / CELL_WIDTH, journal, p);
     match look {
-        TakeBack::Refused(number) => StepAnswer::Refused(number, p),
-        TakeBack::Changes(changes) => {
+        Err(number) => StepAnswer::Refused(number, p),
+        Ok(changes) => {
             undo(cells, journal, used - (changes + 1), changes);
             let row = row_left_at(journal, used - 1);
             StepAnswer::Moved(p.retreat(row, changes))

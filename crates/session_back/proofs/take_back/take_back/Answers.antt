@@ -1,57 +1,33 @@
-use lib.ListN.{length}
-use mathlib.Core.Path.{◌≡◌}
-use native.Mathlib.Omega.{arith}
-use Prim.Native.Nat.{◌/◌}
-use Rattle.tables.specs.Outcome.{ok, seen}
-use Rattle.journal.specs.Cells.{cell_width}
+use Rattle.std.proofs.Common.{arith}
+use Rattle.tables.specs.Outcome.{seen}
 use Rattle.session_back.specs.Back.{taken_back}
-use Rattle.session_back.specs.TakeBack.{take_back_look, take_back_outcome}
-use Rattle.session_back.proofs.BackLaws.{TakesBack, takes_back, took_back}
+use Rattle.session_back.specs.TakeBack.{take_back_outcome}
+use Rattle.session_back.proofs.BackLaws.{told_changes, took_back}
 use Rattle.session_back.proofs.take_back.take_back.Goals as goal
 
 pub overflow_add-changes : goal.overflow_add-changes
-overflow_add-changes c =
-    let given : take_back_look c.args.instructions.now (length c.args.cells.now / cell_width) c.args.journal.now c.args.p ≡ ok c.in-Changes.changes = seen take_back_outcome c.look_back-look.ensures c.in-Changes.is in
-    let takes : TakesBack (length c.args.cells.now / cell_width) c.args.journal.now c.args.p c.in-Changes.changes = takes_back c.args.instructions.now _ c.args.journal.now c.args.p given in
-    omega (arith, takes.before)
+overflow_add-changes c = omega (arith, (told_changes _ _ _ _ c.look_back-look.ensures c.in-Ok.is).before)
 
 pub overflow_sub-used : goal.overflow_sub-used
-overflow_sub-used c =
-    let given : take_back_look c.args.instructions.now (length c.args.cells.now / cell_width) c.args.journal.now c.args.p ≡ ok c.in-Changes.changes = seen take_back_outcome c.look_back-look.ensures c.in-Changes.is in
-    let takes : TakesBack (length c.args.cells.now / cell_width) c.args.journal.now c.args.p c.in-Changes.changes = takes_back c.args.instructions.now _ c.args.journal.now c.args.p given in
-    omega (arith, takes.before)
+overflow_sub-used c = omega (arith, (told_changes _ _ _ _ c.look_back-look.ensures c.in-Ok.is).before)
 
 pub undo-requires : goal.undo-requires
 undo-requires c =
-    let given : take_back_look c.args.instructions.now (length c.args.cells.now / cell_width) c.args.journal.now c.args.p ≡ ok c.in-Changes.changes = seen take_back_outcome c.look_back-look.ensures c.in-Changes.is in
-    let takes : TakesBack (length c.args.cells.now / cell_width) c.args.journal.now c.args.p c.in-Changes.changes = takes_back c.args.instructions.now _ c.args.journal.now c.args.p given in
-    let s = takes in
-    record { count_in_bounds = omega (arith, s.used, s.before); count_value = s.readable }
+    let takes = told_changes _ _ _ _ c.look_back-look.ensures c.in-Ok.is in
+    record { count_in_bounds = omega (arith, takes.used, takes.before); count_value = takes.readable }
 
-pub overflow_sub-used-in-Changes : goal.overflow_sub-used-in-Changes
-overflow_sub-used-in-Changes c =
-    let given : take_back_look c.args.instructions.now (length c.args.cells.now / cell_width) c.args.journal.now c.args.p ≡ ok c.in-Changes.changes = seen take_back_outcome c.look_back-look.ensures c.in-Changes.is in
-    let takes : TakesBack (length c.args.cells.now / cell_width) c.args.journal.now c.args.p c.in-Changes.changes = takes_back c.args.instructions.now _ c.args.journal.now c.args.p given in
-    omega (arith, takes.before)
+pub overflow_sub-used-in-Ok : goal.overflow_sub-used-in-Ok
+overflow_sub-used-in-Ok c = omega (arith, (told_changes _ _ _ _ c.look_back-look.ensures c.in-Ok.is).before)
 
 pub row_left_at-row-requires : goal.row_left_at-row-requires
-row_left_at-row-requires c =
-    let given : take_back_look c.args.instructions.now (length c.args.cells.now / cell_width) c.args.journal.now c.args.p ≡ ok c.in-Changes.changes = seen take_back_outcome c.look_back-look.ensures c.in-Changes.is in
-    let takes : TakesBack (length c.args.cells.now / cell_width) c.args.journal.now c.args.p c.in-Changes.changes = takes_back c.args.instructions.now _ c.args.journal.now c.args.p given in
-    let s = takes in omega (arith, s.used, s.before)
+row_left_at-row-requires c = let takes = told_changes _ _ _ _ c.look_back-look.ensures c.in-Ok.is in omega (arith, takes.used, takes.before)
 
 pub retreat-requires : goal.retreat-requires
-retreat-requires c =
-    let given : take_back_look c.args.instructions.now (length c.args.cells.now / cell_width) c.args.journal.now c.args.p ≡ ok c.in-Changes.changes = seen take_back_outcome c.look_back-look.ensures c.in-Changes.is in
-    let takes : TakesBack (length c.args.cells.now / cell_width) c.args.journal.now c.args.p c.in-Changes.changes = takes_back c.args.instructions.now _ c.args.journal.now c.args.p given in
-    let s = takes in (s.some, s.before)
+retreat-requires c = let takes = told_changes _ _ _ _ c.look_back-look.ensures c.in-Ok.is in (takes.some, takes.before)
 
-pub returns-in-Refused : goal.returns-in-Refused
+pub returns-in-Err : goal.returns-in-Err
 unfolding taken_back
-returns-in-Refused c = rw (seen take_back_outcome c.look_back-look.ensures c.in-Refused.is)
+returns-in-Err c = rw (seen take_back_outcome c.look_back-look.ensures c.in-Err.is)
 
-pub returns-in-Changes : goal.returns-in-Changes
-returns-in-Changes c =
-    let given : take_back_look c.args.instructions.now (length c.args.cells.now / cell_width) c.args.journal.now c.args.p ≡ ok c.in-Changes.changes = seen take_back_outcome c.look_back-look.ensures c.in-Changes.is in
-    took_back _ _ _ given c.row_left_at-row.ensures c.retreat.ensures
-    c.undo.ensures
+pub returns-in-Ok : goal.returns-in-Ok
+returns-in-Ok c = took_back _ _ _ (seen take_back_outcome c.look_back-look.ensures c.in-Ok.is) c.row_left_at-row.ensures c.retreat.ensures c.undo.ensures
