@@ -1,11 +1,11 @@
 -- A CALL's writes: each goes to a cell that is there, and the loop makes them one by one. Assumes nothing.
 use Prim.Native.Nat.{ℕ, suc, ◌+◌, ◌-◌, ◌%◌, ◌<◌, ◌≤◌}
-use mathlib.Core.Bool.{Bool, true, false, ◌&&◌}
+use mathlib.Core.Bool.{true, false}
 use mathlib.Core.List.{List, [], ◌∷◌}
-use mathlib.Core.Path.{◌≡◌, refl, ap, ◌∙◌}
+use mathlib.Core.Path.{◌≡◌, refl, ap}
 use native.Mathlib.Omega.{arith}
 use lib.ListN.{length}
-use lib.Dec.{eqb, ltb, leb}
+use lib.Dec.{eqb, ltb}
 use borrow.Author.Tests.{leb-true}
 use Rattle.tables.specs.Outcome.{ok}
 use Rattle.tables.specs.Cells.{cell_count}
@@ -18,14 +18,13 @@ use Rattle.extern_call.specs.declared.call.CallResolution.{CallResolution}
 use Rattle.extern_call.specs.declared.call.CallResolution.TheVariants as C
 use Rattle.call_argument.specs.declared.resolved.ResolvedCallArgument.TheVariants.{Vector, MemoryReference, Immediate}
 use Rattle.extern_call.proofs.ResolvedLaws.{resolved_facts}
-use Rattle.journal.specs.declared.cells.Write.{Write}
 use Rattle.call_reply.specs.Call.{reply_rows, reply_at, reply_length_fits, hits, cell_hit, of_resolved, reply_row_fits, reply_fits, reply_write, reply_writes_from, reply_writes, call_judged}
 use Rattle.operands.specs.Reach.{There, Laid, Layout}
 use Rattle.call_reply.specs.Reach.{HitWithin, Replied}
 use Rattle.call_reply.specs.declared.reply.Reply.{Reply}
 use Rattle.operands.proofs.AddressLaws.{address-within}
 use Rattle.operands.proofs.Reaches.{in_cells}
-use Rattle.call_reply.proofs.ReplyLaws.{Judged, judged_ok, judged_replied, replied_hit}
+use Rattle.call_reply.proofs.ReplyLaws.{judged_ok, judged_replied, replied_hit}
 use Rattle.session_forward.specs.Step.{Replying}
 
 module _ (regions parameters arguments : List ℕ) (call : ExternCall) where

@@ -1,19 +1,13 @@
 -- Forward's parts: the row at a position, what its functions ask for, a step's end (13 or the writes), and a step in a memory whose first words are the cells.
 -- Assumes nothing.
-use Prim.Native.Nat.{ℕ, ◌+◌, ◌*◌, ◌-◌, ◌<◌, ◌≤◌}
-use mathlib.Core.Bool.{Bool, true, false}
-use mathlib.Core.List.{List, [], ◌∷◌, ◌++◌}
-use mathlib.Core.Path.{◌≡◌, refl}
-use native.Mathlib.Omega.{arith}
-use lib.ListN.{length, take, drop}
-use lib.Dec.{ltb, leb}
+use Rattle.std.proofs.Common.{ℕ, zero, suc, ◌+◌, ◌*◌, ◌-◌, ◌<◌, ◌≤◌, Bool, true, false, ltb, leb, List, ◌++◌, length, take, drop, All, ◌≡◌, refl, arith}
 use borrow.Author.Tests.{ltb-true, leb-true}
-use Rattle.tables.specs.Outcome.{Outcome, ok, refuse, ◌>>=◌, ◌>>◌, need}
+use Rattle.tables.specs.Outcome.{ok, refuse, ◌>>=◌, ◌>>◌, need}
 use Rattle.tables.specs.Tables.{Tables}
 use Rattle.tables.specs.Rows.{instruction_rows, instruction_at}
 use Rattle.word_rules.specs.Instruction as I
 use Rattle.tables.specs.declared.rows.Instruction.{Instruction}
-use Rattle.loader.proofs.Loaded.{Loaded, loaded, few-instructions, instruction_allowed_lem, call-arguments, extern_parameters}
+use Rattle.loader.proofs.Loaded.{loaded, few-instructions, instruction_allowed_lem, call-arguments, extern_parameters}
 use Rattle.tables.proofs.Passed.{both, passed}
 use Rattle.journal.specs.declared.cells.Write.{Write}
 use Rattle.journal.specs.Each.{Each, none, also}
@@ -110,11 +104,10 @@ module _ {regions externs parameters arguments instructions cells : List ℕ} {j
   }
 
 -- the cells of a plain row's writes are there
-pub one-there : {regions cells : List ℕ} {w : Write} → Layout regions cells → Each (Within regions) (w ∷ []) → There cells w.cell
-one-there l (also h none) = in_cells l h
-
-pub two_there : {regions cells : List ℕ} {v w : Write} → Layout regions cells → Each (Within regions) (v ∷ w ∷ []) → There cells v.cell × There cells w.cell
-two_there l (also h (also k none)) = (in_cells l h, in_cells l k)
+pub all_there : {regions cells : List ℕ} {ws : List Write} → Layout regions cells → Each (Within regions) ws → All (λ w. There cells w.cell) ws
+all_there l none k d h = absurd (omega arith)
+all_there l (also w ws) zero d h = in_cells l w
+all_there l (also w ws) (suc k) d h = all_there l ws k d (omega arith)
 
 -- ---- a step's end
 

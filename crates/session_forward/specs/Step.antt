@@ -1,5 +1,5 @@
 -- How forward takes one row in the code, behind 1, 2, 3, 10 and 4: the row at the position, then what the row's outcome leaves.
-use Rattle.std.specs.Prelude.{ℕ, ◌+◌, ◌*◌, ◌<◌, ◌≤◌, true, List, ◌≡◌, length, ltb}
+use Rattle.std.specs.Prelude.{ℕ, ◌<◌, ◌≤◌, true, List, Result, Ok, Err, ◌≡◌, length, ltb}
 use Rattle.tables.specs.Refusal.{foreign_position, at_end}
 use Rattle.tables.specs.Outcome.{Outcome, ok, refuse, ◌>>=◌, ◌>>◌, need}
 use Rattle.tables.specs.Tables.{Tables}
@@ -19,8 +19,6 @@ use Rattle.machine.specs.Reach.{Opened}
 use Rattle.session.specs.Prepare.{entries_of}
 use Rattle.session.specs.Position.{position_fits, room_for}
 use Rattle.session_forward.specs.Forward.{step_look, Left, stepped}
-use Rattle.session_forward.specs.declared.step.RowHere.{RowHere}
-use Rattle.session_forward.specs.declared.step.RowHere.TheVariants.{At, Refused}
 
 -- from 19 on
 unfoldable pub row_look : Tables → List ℕ → ℕ → Position → List ℕ → Outcome (List Write)
@@ -35,10 +33,10 @@ current_row instructions entries p = do
   need (ltb p.row (instruction_rows instructions)) at_end
   ok (instruction_at instructions p.row)
 
--- the answer `RowHere` of the code
-abbrev pub here_outcome : RowHere → Outcome Instruction
-here_outcome (At x) = ok x
-here_outcome (Refused number) = refuse number
+-- the row at a position, or the refusal's number
+abbrev pub here_outcome : Result Instruction ℕ → Outcome Instruction
+here_outcome (Ok x) = ok x
+here_outcome (Err number) = refuse number
 
 -- "13" after what the row does, then what is left
 unfoldable pub row_leaves : List ℕ → List ℕ → Position → ℕ → Outcome (List Write) → Left

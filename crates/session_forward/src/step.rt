@@ -22,23 +22,17 @@ use tables::refusal::{AT_END, FOREIGN_POSITION, OTHER_INSTRUCTION, UNFIT_LABELS}
 use tables::rows::{INSTRUCTION_LIMIT, INSTRUCTION_WIDTH, Instruction, instruction_at};
 
 // The row at a position, or a refusal by its number.
-#[derive(Drop)]
-pub enum RowHere {
-    At(Instruction),
-    Refused(u64),
-}
-
-fn row_here(instructions: &[u64], entries: usize, p: Position) -> RowHere
+fn row_here(instructions: &[u64], entries: usize, p: Position) -> Result<Instruction, u64>
     ensures { here_outcome result ≡ current_row instructions.now entries p }
 {
     let row = p.row;
     if !position_fits(instructions, entries, p) {
-        return RowHere::Refused(FOREIGN_POSITION);
+        return Err(FOREIGN_POSITION);
     }
     if instructions.len() / INSTRUCTION_WIDTH <= row {
-        return RowHere::Refused(AT_END);
+        return Err(AT_END);
     }
-    RowHere::At(instruction_at(instructions, row))
+    Ok(instruction_at(instructions, row))
 }
 
 // Any row: 9, 20, then by CALL or no CALL. The labels were looked at before. The nodes play no part in it.
@@ -93,8 +87,8 @@ pub fn step_row(
 {
     let here = row_here(instructions, journal.len() / ENTRY_WIDTH, p);
     match here {
-        RowHere::Refused(number) => StepAnswer::Refused(number, p),
-        RowHere::At(x) => any_step(
+        Err(number) => StepAnswer::Refused(number, p),
+        Ok(x) => any_step(
             regions,
             externs,
             parameters,

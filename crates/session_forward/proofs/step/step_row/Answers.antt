@@ -12,18 +12,18 @@ use Rattle.session_forward.proofs.step.step_row.Goals as goal
 
 pub any_step-requires : goal.any_step-requires
 any_step-requires c =
-    let row : current_row c.args.instructions.now (entries_of (length c.args.journal.now)) c.args.p ≡ ok c.in-At.x = seen here_outcome c.row_here-here.ensures c.in-At.is in
+    let row : current_row c.args.instructions.now (entries_of (length c.args.journal.now)) c.args.p ≡ ok c.in-Ok.x = seen here_outcome c.row_here-here.ensures c.in-Ok.is in
     (row_ready c.args.p c.requires.0 row, c.requires.1)
 
-pub returns-in-Refused : goal.returns-in-Refused
+pub returns-in-Err : goal.returns-in-Err
 unfolding stepped
-returns-in-Refused c =
+returns-in-Err c =
     let tables : List ℕ → Tables = λ nodes. tables_of c.args.regions.now c.args.externs.now c.args.parameters.now nodes c.args.arguments.now c.args.instructions.now in
-    λ nodes. rw (row-refused (tables nodes) c.args.cells.now _ c.args.p c.args.reply.now (seen here_outcome c.row_here-here.ensures c.in-Refused.is))
+    λ nodes. rw (row-refused (tables nodes) c.args.cells.now _ c.args.p c.args.reply.now (seen here_outcome c.row_here-here.ensures c.in-Err.is))
 
-pub returns-in-At : goal.returns-in-At
+pub returns-in-Ok : goal.returns-in-Ok
 unfolding row_leaves
-returns-in-At c =
+returns-in-Ok c =
     let tables : List ℕ → Tables = λ nodes. tables_of c.args.regions.now c.args.externs.now c.args.parameters.now nodes c.args.arguments.now c.args.instructions.now in
-    let row : current_row c.args.instructions.now (entries_of (length c.args.journal.now)) c.args.p ≡ ok c.in-At.x = seen here_outcome c.row_here-here.ensures c.in-At.is in
+    let row : current_row c.args.instructions.now (entries_of (length c.args.journal.now)) c.args.p ≡ ok c.in-Ok.x = seen here_outcome c.row_here-here.ensures c.in-Ok.is in
     λ nodes. rw (row_taken (tables nodes) c.args.cells.now _ c.args.p c.args.reply.now row) (c.any_step.ensures nodes)
