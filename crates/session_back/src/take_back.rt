@@ -14,12 +14,7 @@ use tables::refusal::{FOREIGN_POSITION, NOTHING_TO_TAKE_BACK};
 use tables::rows::INSTRUCTION_WIDTH;
 
 // The change count of the last step, or a refusal by its number.
-fn look_back(
-    instructions: &[u64],
-    cells: usize,
-    journal: &[u64],
-    p: Position,
-) -> Result<usize, u64>
+fn look_back(instructions: &[u64], cells: usize, journal: &[u64], p: Position) -> Result<usize, u64>
     ensures { take_back_outcome result ≡ take_back_look instructions.now cells journal.now p }
 {
     let done = p.done;

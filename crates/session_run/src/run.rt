@@ -17,19 +17,15 @@ use tables::refusal::FOREIGN_POSITION;
 use tables::rows::{INSTRUCTION_LIMIT, INSTRUCTION_WIDTH, instruction_at};
 
 // What a turn comes to: the position after a step, or why it was not taken with the position as it was.
-#[derive(Drop)]
-pub enum Turn {
-    Moved(Position),
-    Stopped(Stop, Position),
-}
+type Turn = Result<Position, (Stop, Position)>;
 
 // What a forward comes to.
 fn turn_of(answer: StepAnswer) -> Turn
     ensures { (rest : Rest) (taken : ℕ) (cells journal : List ℕ) → after_turn rest taken cells journal result ≡ onward rest taken cells journal answer }
 {
     match answer {
-        StepAnswer::Moved(p) => Turn::Moved(p),
-        StepAnswer::Refused(number, p) => Turn::Stopped(Stop::Refusal(number), p),
+        StepAnswer::Moved(p) => Ok(p),
+        StepAnswer::Refused(number, p) => Err((Stop::Refusal(number), p)),
     }
 }
 
@@ -51,11 +47,11 @@ fn take_turn(
 {
     let row = p.row;
     if instructions.len() / INSTRUCTION_WIDTH <= row {
-        return Turn::Stopped(Stop::End, p);
+        return Err((Stop::End, p));
     }
     let x = instruction_at(instructions, row);
     if x.family == CALL {
-        return Turn::Stopped(Stop::Call, p);
+        return Err((Stop::Call, p));
     }
     let answer = step_row(
         regions,
@@ -105,8 +101,8 @@ pub fn run_rows(
             position,
         );
         match turn {
-            Turn::Stopped(stop, at) => return RunAnswer::Ran(taken, stop, at),
-            Turn::Moved(next) => position = next,
+            Err((stop, at)) => return RunAnswer::Ran(taken, stop, at),
+            Ok(next) => position = next,
         }
     }
     RunAnswer::Ran(allowance, Stop::Allowance, position)

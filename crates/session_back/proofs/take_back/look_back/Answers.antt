@@ -1,4 +1,4 @@
-use Rattle.std.proofs.Common.{ℕ, ◌≤◌, Bool, true, false, not, List, length, ◌≡◌, sym, ◌∙◌, arith}
+use Rattle.std.proofs.Common.{ℕ, ◌≤◌, Bool, true, false, not, List, ◌≡◌, sym, ◌∙◌, arith}
 use borrow.Author.Tests.{not-true, not-false, lt-ltb, le-ltb}
 use Rattle.tables.specs.Outcome.{◌>>◌, need}
 use Rattle.journal.specs.declared.position.Position.{Position}
