@@ -1,6 +1,6 @@
 -- What is known behind the looks at the tables, and behind those that open, forward, back and run begin with. Assumes nothing.
 use Prim.Native.Nat.{ℕ, ◌*◌, ◌%◌, ◌≤◌}
-use mathlib.Core.Bool.{Bool, true, ◌&&◌}
+use mathlib.Core.Bool.{true}
 use mathlib.Core.List.{List}
 use mathlib.Core.Path.{◌≡◌, refl, ap, ◌∙◌}
 use native.Mathlib.Omega.{arith}
@@ -8,7 +8,7 @@ use lib.ListN.{length, take}
 use lib.Seq.{length-take-le}
 use lib.Dec.{eqb, leb}
 use borrow.Author.Tests.{eqb-true, leb-true}
-use Rattle.tables.specs.Outcome.{Outcome, ok, refuse, ◌>>=◌, ◌>>◌}
+use Rattle.tables.specs.Outcome.{Outcome, ok, refuse, ◌>>◌, seen}
 use Rattle.tables.specs.Tables.{Tables}
 use Rattle.loader.specs.Load.{load_look}
 use Rattle.tables.specs.Cells.{cell_limit, cell_count, cells_of}
@@ -17,7 +17,9 @@ use Rattle.tables.proofs.CellsLaws.{cells_given}
 use Rattle.operands.proofs.Binds.{bound}
 use Rattle.journal.specs.Cells.{cell_width}
 use Rattle.journal.specs.Entries.{entry_width, entry_limit}
-use Rattle.session.specs.Prepare.{tables_look, entries_of, buffers_fit, prepared_of, Ready}
+use Rattle.session.specs.Prepare.{tables_look, entries_of, buffers_fit, prepared_of, prepared_outcome, Ready}
+use Rattle.session.specs.declared.prepare.Prepared.{Prepared}
+use Rattle.session.specs.declared.prepare.Prepared.TheVariants.{Cells}
 
 then_ok : {B : Type 0} (s : Outcome (Unit {0})) (r : Outcome B) (b : B) → (s >> r) ≡ ok b → (s ≡ ok tt) × (r ≡ ok b)
 unfolding ◌>>◌
@@ -77,6 +79,10 @@ prepared t memory journal {n} e =
     let c = counted t (tables-looked t memory journal e) in
     let s = fitting n memory journal (rw q at f) in
     record { loads = c.loads; count = c.count; few = c.few; room = s.room; whole = s.whole; short = s.short }
+
+-- the same, of the answer of the code
+pub told_cells : (t : Tables) (memory journal : ℕ) {r : Prepared} {n : ℕ} → prepared_outcome r ≡ prepared_of t memory journal → r ≡ Cells n → Facts t memory journal n
+told_cells t memory journal e f = prepared t memory journal (seen prepared_outcome e f)
 
 -- the cells are the first words of a memory that is long enough
 pub ready : (t : Tables) (m : List ℕ) (journal : ℕ) {n : ℕ} → Facts t (length m) journal n → Ready t (take (cell_width * n) m) journal

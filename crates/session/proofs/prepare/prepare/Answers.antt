@@ -1,8 +1,6 @@
-use mathlib.Core.Path.{◌≡◌, sym, ◌∙◌}
-use borrow.Author.Tests.{not-true, not-false}
-use Rattle.tables.specs.Outcome.{ok, ◌>>=◌, ◌>>◌, need, seen}
-use Rattle.tables.specs.Tables.{Tables, tables_of}
-use Rattle.session.specs.Prepare.{tables_look, prepared_of, prepared_outcome}
+use Rattle.tables.specs.Outcome.{◌>>=◌, ◌>>◌, need, seen}
+use Rattle.session.specs.Prepare.{prepared_of, prepared_outcome}
+use Rattle.session.proofs.AnswerLaws.{look-passed, look-failed}
 use Rattle.session.proofs.Prepared.{counted}
 use Rattle.session.proofs.prepare.prepare.Goals as goal
 
@@ -11,21 +9,14 @@ unfolding prepared_of ◌>>=◌
 returns-in_default c = rw (c.in_default.is, seen prepared_outcome c.tables_look-looked.ensures c.in_default.is)
 
 pub buffers_fit-requires : goal.buffers_fit-requires
-buffers_fit-requires c =
-    let tablesAt : Tables = tables_of c.args.regions.now c.args.externs.now c.args.parameters.now c.args.nodes.now c.args.arguments.now c.args.instructions.now in
-    let looks : tables_look tablesAt ≡ ok c.in-Cells.cells = seen prepared_outcome c.tables_look-looked.ensures c.in-Cells.is in
-    (counted _ looks).few
+buffers_fit-requires c = (counted _ (seen prepared_outcome c.tables_look-looked.ensures c.in-Cells.is)).few
 
 pub returns-then-not-buffers_fit : goal.returns-then-not-buffers_fit
 unfolding prepared_of ◌>>=◌ ◌>>◌ need
 returns-then-not-buffers_fit c =
-    let tablesAt : Tables = tables_of c.args.regions.now c.args.externs.now c.args.parameters.now c.args.nodes.now c.args.arguments.now c.args.instructions.now in
-    let looks : tables_look tablesAt ≡ ok c.in-Cells.cells = seen prepared_outcome c.tables_look-looked.ensures c.in-Cells.is in
-    rw (looks, sym c.buffers_fit.ensures ∙ not-true _ c.if-not-buffers_fit.true-raw)
+    rw (seen prepared_outcome c.tables_look-looked.ensures c.in-Cells.is, look-failed c.buffers_fit.ensures c.if-not-buffers_fit.true-raw)
 
 pub returns : goal.returns
 unfolding prepared_of ◌>>=◌ ◌>>◌ need
 returns c =
-    let tablesAt : Tables = tables_of c.args.regions.now c.args.externs.now c.args.parameters.now c.args.nodes.now c.args.arguments.now c.args.instructions.now in
-    let looks : tables_look tablesAt ≡ ok c.in-Cells.cells = seen prepared_outcome c.tables_look-looked.ensures c.in-Cells.is in
-    rw (looks, sym c.buffers_fit.ensures ∙ not-false _ c.if-not-buffers_fit.false-raw)
+    rw (seen prepared_outcome c.tables_look-looked.ensures c.in-Cells.is, look-passed c.buffers_fit.ensures c.if-not-buffers_fit.false-raw)

@@ -1,15 +1,6 @@
-use Prim.Native.Nat.{◌+◌, ◌-◌}
-use mathlib.Core.Bool.{Bool}
-use mathlib.Core.List.{List}
-use mathlib.Core.Path.{◌≡◌, sym, ◌∙◌}
-use native.Mathlib.Omega.{arith}
-use lib.ListN.{length}
-use lib.Dec.{leb}
-use borrow.Author.Tests.{not-true, not-false}
-use Rattle.journal.specs.declared.cells.Write.{Write}
-use Rattle.call_reply.specs.Call.{reply_rows, reply_writes}
+use Rattle.std.proofs.Common.{arith}
 use Rattle.call_reply.proofs.ReplyLaws.{reply_writes-length}
-use Rattle.session.specs.Prepare.{entries_of}
+use Rattle.session.proofs.AnswerLaws.{look-passed, look-failed}
 use Rattle.session_forward.proofs.StepLaws.{room-words, full, roomy}
 use Rattle.session_forward.proofs.call_step.reply_step.Goals as goal
 
@@ -18,15 +9,12 @@ has_room-requires c = (c.requires.1.used, omega (arith, c.requires.0.few))
 
 pub returns-then-not-has_room : goal.returns-then-not-has_room
 returns-then-not-has_room c =
-    let writes : List Write = reply_writes c.args.regions.now c.args.parameters.now c.args.arguments.now c.args.call c.args.reply.now in
-    let rows : length writes ≡ reply_rows c.args.reply.now = reply_writes-length c.args.regions.now c.args.parameters.now c.args.arguments.now c.args.call c.args.reply.now in
-    let room : (b : Bool) → c.has_room.result ≡ b → leb (reply_rows c.args.reply.now + 1) (entries_of (length c.args.journal.now) - c.args.p.used) ≡ b = λ b e. sym c.has_room.ensures ∙ e in
-    full c.args.cells.now c.args.journal.now c.args.p c.args.next writes (reply_rows c.args.reply.now) rows (room _ (not-true _ c.if-not-has_room.true-raw))
+    let rows = reply_writes-length c.args.regions.now c.args.parameters.now c.args.arguments.now c.args.call c.args.reply.now in
+    full c.args.cells.now c.args.journal.now c.args.p c.args.next _ _ rows (look-failed c.has_room.ensures c.if-not-has_room.true-raw)
 
 pub write_reply-requires : goal.write_reply-requires
 write_reply-requires c =
-    let room : (b : Bool) → c.has_room.result ≡ b → leb (reply_rows c.args.reply.now + 1) (entries_of (length c.args.journal.now) - c.args.p.used) ≡ b = λ b e. sym c.has_room.ensures ∙ e in
-    (c.requires.0, room-words _ _ c.args.p (room _ (not-false _ c.if-not-has_room.false-raw)))
+    (c.requires.0, room-words _ _ c.args.p (look-passed c.has_room.ensures c.if-not-has_room.false-raw))
 
 pub advance-requires : goal.advance-requires
 advance-requires c =
@@ -34,7 +22,5 @@ advance-requires c =
 
 pub returns : goal.returns
 returns c =
-    let writes : List Write = reply_writes c.args.regions.now c.args.parameters.now c.args.arguments.now c.args.call c.args.reply.now in
-    let rows : length writes ≡ reply_rows c.args.reply.now = reply_writes-length c.args.regions.now c.args.parameters.now c.args.arguments.now c.args.call c.args.reply.now in
-    let room : (b : Bool) → c.has_room.result ≡ b → leb (reply_rows c.args.reply.now + 1) (entries_of (length c.args.journal.now) - c.args.p.used) ≡ b = λ b e. sym c.has_room.ensures ∙ e in
-    roomy c.args.cells.now c.args.journal.now c.args.p c.args.next writes (reply_rows c.args.reply.now) rows (room _ (not-false _ c.if-not-has_room.false-raw)) c.advance.ensures c.write_reply.ensures.cells_after c.write_reply.ensures.journal_after
+    let rows = reply_writes-length c.args.regions.now c.args.parameters.now c.args.arguments.now c.args.call c.args.reply.now in
+    roomy c.args.cells.now c.args.journal.now c.args.p c.args.next _ _ rows (look-passed c.has_room.ensures c.if-not-has_room.false-raw) c.advance.ensures c.write_reply.ensures.cells_after c.write_reply.ensures.journal_after

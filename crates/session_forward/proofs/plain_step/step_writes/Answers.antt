@@ -1,13 +1,13 @@
 use Rattle.std.proofs.Common.{refl, sym, ◌∙◌, arith}
 use Rattle.std.proofs.lemmas.List.{drop_more, drop_all}
-use borrow.Author.Tests.{not-true, not-false}
 use Rattle.journal.proofs.WritingLaws.{writing_turn, writing_end}
+use Rattle.session.proofs.AnswerLaws.{look-passed, look-failed}
 use Rattle.session_forward.proofs.StepLaws.{full, roomy}
 use Rattle.session_forward.proofs.plain_step.step_writes.Goals as goal
 
 pub returns-then-not-has_room : goal.returns-then-not-has_room
 returns-then-not-has_room c =
-    full c.args.cells.now c.args.journal.now c.args.p c.args.next c.args.writes.now _ refl (sym c.has_room.ensures ∙ not-true _ c.if-not-has_room.true-raw)
+    full c.args.cells.now c.args.journal.now c.args.p c.args.next c.args.writes.now _ refl (look-failed c.has_room.ensures c.if-not-has_room.true-raw)
 
 pub loop-i-preserved : goal.loop-i-preserved
 loop-i-preserved c =
@@ -16,4 +16,4 @@ loop-i-preserved c =
 pub returns : goal.returns
 returns c =
     let end = writing_end _ _ _ _ _ _ _ _ c.loop-i.invariant _ _ _ _ (drop_all c.loop-i.i c.args.writes.now c.loop-i-test.false) (omega arith) refl c.close.ensures in
-    roomy c.args.cells.now c.args.journal.now c.args.p c.args.next c.args.writes.now _ refl (sym c.has_room.ensures ∙ not-false _ c.if-not-has_room.false-raw) c.advance.ensures end.0 end.1
+    roomy c.args.cells.now c.args.journal.now c.args.p c.args.next c.args.writes.now _ refl (look-passed c.has_room.ensures c.if-not-has_room.false-raw) c.advance.ensures end.0 end.1

@@ -1,10 +1,7 @@
-use mathlib.Core.Path.{◌≡◌}
+use Rattle.std.proofs.Common.{◌≡◌}
 use borrow.Author.Tests.{eq-eqb, ne_eqb}
 use Rattle.tables.specs.Outcome.{◌>>◌, seen}
-use Rattle.tables.specs.Family as family
-use Rattle.tables.specs.Rows.{instruction_at}
-use Rattle.extern_call.specs.Call.{resolves_call, call_answer}
-use Rattle.extern_call.specs.declared.call.CallAnswer.{CallAnswer}
+use Rattle.extern_call.specs.Call.{call_answer}
 use Rattle.session_open.specs.Open.{call_look}
 use Rattle.session_open.proofs.program.call_look.Goals as goal
 
@@ -14,19 +11,14 @@ returns-then-x-ne-CALL c = rw (ne_eqb _ _ (rw c.instruction_at-x.ensures at c.if
 
 pub resolves-answer-requires : goal.resolves-answer-requires
 resolves-answer-requires c =
-    let is_call : (instruction_at c.args.instructions.now c.args.row).family ≡ family.call = rw c.instruction_at-x.ensures at c.if-x-ne-CALL.false in
-    rw c.instruction_at-x.ensures (c.requires.1.row _ c.requires.0 is_call)
+    rw c.instruction_at-x.ensures (c.requires.1.row _ c.requires.0 (rw c.instruction_at-x.ensures at c.if-x-ne-CALL.false))
 
 pub returns-in-Resolves : goal.returns-in-Resolves
 unfolding call_look ◌>>◌
 returns-in-Resolves c =
-    let is_call : (instruction_at c.args.instructions.now c.args.row).family ≡ family.call = rw c.instruction_at-x.ensures at c.if-x-ne-CALL.false in
-    let answered : (r : CallAnswer) → c.resolves-answer.result ≡ r → resolves_call c.args.regions.now c.args.externs.now c.args.parameters.now c.args.arguments.now (instruction_at c.args.instructions.now c.args.row) ≡ call_answer r = λ r e. seen call_answer (rw c.instruction_at-x.ensures at c.resolves-answer.ensures) e in
-    rw (eq-eqb _ _ is_call, answered _ c.in-Resolves.is)
+    rw (eq-eqb _ _ (rw c.instruction_at-x.ensures at c.if-x-ne-CALL.false), seen call_answer (rw c.instruction_at-x.ensures at c.resolves-answer.ensures) c.in-Resolves.is)
 
 pub returns-in-Refused : goal.returns-in-Refused
 unfolding call_look ◌>>◌
 returns-in-Refused c =
-    let is_call : (instruction_at c.args.instructions.now c.args.row).family ≡ family.call = rw c.instruction_at-x.ensures at c.if-x-ne-CALL.false in
-    let answered : (r : CallAnswer) → c.resolves-answer.result ≡ r → resolves_call c.args.regions.now c.args.externs.now c.args.parameters.now c.args.arguments.now (instruction_at c.args.instructions.now c.args.row) ≡ call_answer r = λ r e. seen call_answer (rw c.instruction_at-x.ensures at c.resolves-answer.ensures) e in
-    rw (eq-eqb _ _ is_call, answered _ c.in-Refused.is)
+    rw (eq-eqb _ _ (rw c.instruction_at-x.ensures at c.if-x-ne-CALL.false), seen call_answer (rw c.instruction_at-x.ensures at c.resolves-answer.ensures) c.in-Refused.is)
