@@ -1,5 +1,5 @@
-use Rattle.std.proofs.Common.{ℕ, ◌≤◌, Bool, true, false, not, List, ◌≡◌, sym, ◌∙◌, arith}
-use borrow.Author.Tests.{not-true, not-false, lt-ltb, le-ltb}
+use Rattle.std.proofs.Common.{ℕ, ◌≤◌, Bool, false, not, List, ◌≡◌, arith}
+use borrow.Author.Tests.{lt-ltb, le-ltb}
 use Rattle.tables.specs.Outcome.{◌>>◌, need}
 use Rattle.journal.specs.declared.position.Position.{Position}
 use Rattle.session.specs.Position.{position_fits}

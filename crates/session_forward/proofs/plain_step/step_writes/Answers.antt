@@ -1,4 +1,4 @@
-use Rattle.std.proofs.Common.{refl, sym, ◌∙◌, arith}
+use Rattle.std.proofs.Common.{refl, arith}
 use Rattle.std.proofs.lemmas.List.{drop_more, drop_all}
 use Rattle.journal.proofs.WritingLaws.{writing_turn, writing_end}
 use Rattle.session.proofs.AnswerLaws.{look-passed, look-failed}

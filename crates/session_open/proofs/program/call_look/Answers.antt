@@ -1,4 +1,3 @@
-use Rattle.std.proofs.Common.{◌≡◌}
 use borrow.Author.Tests.{eq-eqb, ne_eqb}
 use Rattle.tables.specs.Outcome.{◌>>◌, seen}
 use Rattle.extern_call.specs.Call.{call_answer}
