@@ -1,9 +1,7 @@
 // A call on what is lent, and the line that tells of it.
-use crate::lent::{JOURNAL, JOURNAL_WORDS, MEMORY, MEMORY_WORDS, length_of};
+use crate::lent::{JOURNAL_WORDS, List, MEMORY_WORDS, length_of};
 use crate::print::{UNWRITTEN, changes, text};
 use crate::{kept, steps};
-use script::fill::put;
-use script::line::least;
 
 // The out-arrays of a call that no other call goes on from are its own.
 fn play(
@@ -31,12 +29,10 @@ fn play(
     }
 }
 
+// As many words as both have.
 fn copy(from: &[u64], to: &mut [u64]) {
-    let mut i = 0;
-    while i < from.len() {
-        put(to, i, from[i]);
-        i += 1;
-    }
+    let words = from.len().min(to.len());
+    to[..words].copy_from_slice(&from[..words]);
 }
 
 // The call, and the words of memory and journal that it changed.
@@ -67,13 +63,13 @@ pub fn call(
     position: &mut [u64; 3],
     place: &mut [u64; 1],
 ) {
-    let words = least(length_of(tables, MEMORY), memory.len());
-    let entries = least(length_of(tables, JOURNAL), journal.len());
+    let words = length_of(tables, List::Memory).min(memory.len());
+    let entries = length_of(tables, List::Journal).min(journal.len());
     told(
         sign,
         tables,
-        &mut memory[0..words],
-        &mut journal[0..entries],
+        &mut memory[..words],
+        &mut journal[..entries],
         position,
         place,
     );

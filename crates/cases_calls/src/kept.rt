@@ -1,5 +1,5 @@
 // The calls on tables alone, through their C forms, and the loader's look at a chosen row, which no call of its own shows for a family other than frame and CALL.
-use crate::lent::{ARGUMENTS, EXTERNS, INSTRUCTIONS, NODES, PARAMETERS, REGIONS, given, words_of};
+use crate::lent::{List, given, words_of};
 use crate::print::{answered, written};
 use console_c::access::console_access;
 use console_c::check::console_check;
@@ -12,12 +12,12 @@ use tables::look::Look;
 
 pub fn check(tables: &[u64], error: &mut [u64; 6]) {
     let number = console_check(
-        words_of(tables, REGIONS),
-        words_of(tables, EXTERNS),
-        words_of(tables, PARAMETERS),
-        words_of(tables, NODES),
-        words_of(tables, ARGUMENTS),
-        words_of(tables, INSTRUCTIONS),
+        words_of(tables, List::Regions),
+        words_of(tables, List::Externs),
+        words_of(tables, List::Parameters),
+        words_of(tables, List::Nodes),
+        words_of(tables, List::Arguments),
+        words_of(tables, List::Instructions),
         error,
     );
     answered(b"check", number);
@@ -26,12 +26,12 @@ pub fn check(tables: &[u64], error: &mut [u64; 6]) {
 
 pub fn frame(tables: &[u64], looked: &mut [u64; 1], error: &mut [u64; 6]) {
     let number = console_frame(
-        words_of(tables, REGIONS),
-        words_of(tables, EXTERNS),
-        words_of(tables, PARAMETERS),
-        words_of(tables, NODES),
-        words_of(tables, ARGUMENTS),
-        words_of(tables, INSTRUCTIONS),
+        words_of(tables, List::Regions),
+        words_of(tables, List::Externs),
+        words_of(tables, List::Parameters),
+        words_of(tables, List::Nodes),
+        words_of(tables, List::Arguments),
+        words_of(tables, List::Instructions),
         given(tables, 0),
         looked,
         error,
@@ -43,12 +43,12 @@ pub fn frame(tables: &[u64], looked: &mut [u64; 1], error: &mut [u64; 6]) {
 
 pub fn resolve(tables: &[u64], rows: &mut [u64], count: &mut [u64; 1]) {
     let number = console_resolve(
-        words_of(tables, REGIONS),
-        words_of(tables, EXTERNS),
-        words_of(tables, PARAMETERS),
-        words_of(tables, NODES),
-        words_of(tables, ARGUMENTS),
-        words_of(tables, INSTRUCTIONS),
+        words_of(tables, List::Regions),
+        words_of(tables, List::Externs),
+        words_of(tables, List::Parameters),
+        words_of(tables, List::Nodes),
+        words_of(tables, List::Arguments),
+        words_of(tables, List::Instructions),
         given(tables, 0),
         rows,
         count,
@@ -59,12 +59,12 @@ pub fn resolve(tables: &[u64], rows: &mut [u64], count: &mut [u64; 1]) {
 
 pub fn access(tables: &[u64], reads: &mut [u64], writes: &mut [u64], counts: &mut [u64; 2]) {
     let number = console_access(
-        words_of(tables, REGIONS),
-        words_of(tables, EXTERNS),
-        words_of(tables, PARAMETERS),
-        words_of(tables, NODES),
-        words_of(tables, ARGUMENTS),
-        words_of(tables, INSTRUCTIONS),
+        words_of(tables, List::Regions),
+        words_of(tables, List::Externs),
+        words_of(tables, List::Parameters),
+        words_of(tables, List::Nodes),
+        words_of(tables, List::Arguments),
+        words_of(tables, List::Instructions),
         given(tables, 0),
         reads,
         writes,
@@ -77,7 +77,7 @@ pub fn access(tables: &[u64], reads: &mut [u64], writes: &mut [u64], counts: &mu
 // A step from a place.
 pub fn reference(tables: &[u64], place: &mut [u64; 1], found: &mut [u64; 3]) {
     let number = console_reference(
-        words_of(tables, NODES),
+        words_of(tables, List::Nodes),
         given(tables, 0),
         given(tables, 1),
         place,
@@ -91,7 +91,7 @@ pub fn reference(tables: &[u64], place: &mut [u64; 1], found: &mut [u64; 3]) {
 // As many references as there is room for, from a place.
 pub fn references(tables: &[u64], rows: &mut [u64], place: &mut [u64; 1], count: &mut [u64; 1]) {
     let number = console_references(
-        words_of(tables, NODES),
+        words_of(tables, List::Nodes),
         given(tables, 0),
         given(tables, 1),
         place,
@@ -112,12 +112,12 @@ fn number_of(look: Look) -> u64 {
 
 pub fn look(tables: &[u64]) {
     let seen = load_row(
-        words_of(tables, REGIONS),
-        words_of(tables, EXTERNS),
-        words_of(tables, PARAMETERS),
-        words_of(tables, NODES),
-        words_of(tables, ARGUMENTS),
-        words_of(tables, INSTRUCTIONS),
+        words_of(tables, List::Regions),
+        words_of(tables, List::Externs),
+        words_of(tables, List::Parameters),
+        words_of(tables, List::Nodes),
+        words_of(tables, List::Arguments),
+        words_of(tables, List::Instructions),
         given(tables, 0) as usize,
         given(tables, 1),
     );

@@ -2,88 +2,74 @@
 ghost use Rattle.std.specs.Prelude.{◌≤◌, length};
 
 use script::fill::{fill, put};
-use script::line::least;
 use script::token::token_at;
 
 // Room for a row more than the limits allow.
 pub const ROOM: usize = 6150;
 
-// The six tables lie one after the other, then the numbers that are given to a call, and then the lengths of all lists.
-const LENGTHS: usize = MEMORY * ROOM;
+// The lists: of tables and given numbers the words, and of each list the length stand where its place says.
+#[derive(Clone, Copy)]
+pub enum List {
+    Regions,
+    Externs,
+    Parameters,
+    Nodes,
+    Arguments,
+    Instructions,
+    Given,
+    Memory,
+    Journal,
+}
 
-pub const TABLE_WORDS: usize = LENGTHS + JOURNAL + 1;
+// The six tables lie one after the other, then the numbers that are given to a call, and then the lengths of all lists.
+const LENGTHS: usize = 7 * ROOM;
+
+pub const TABLE_WORDS: usize = LENGTHS + 9;
 
 pub const MEMORY_WORDS: usize = 8200;
 
 pub const JOURNAL_WORDS: usize = 6150;
 
-// The lists, by their places: a table's words and every list's length stand where its place says.
-pub const REGIONS: usize = 0;
-
-pub const EXTERNS: usize = 1;
-
-pub const PARAMETERS: usize = 2;
-
-pub const NODES: usize = 3;
-
-pub const ARGUMENTS: usize = 4;
-
-pub const INSTRUCTIONS: usize = 5;
-
-pub const GIVEN: usize = 6;
-
-pub const MEMORY: usize = 7;
-
-pub const JOURNAL: usize = 8;
-
 // A table by its sign.
-fn table_of(sign: u8) -> usize {
+fn table_of(sign: u8) -> List {
     match sign {
-        b'R' => REGIONS,
-        b'E' => EXTERNS,
-        b'P' => PARAMETERS,
-        b'N' => NODES,
-        b'A' => ARGUMENTS,
-        b'I' => INSTRUCTIONS,
-        _ => GIVEN,
+        b'R' => List::Regions,
+        b'E' => List::Externs,
+        b'P' => List::Parameters,
+        b'N' => List::Nodes,
+        b'A' => List::Arguments,
+        b'I' => List::Instructions,
+        _ => List::Given,
     }
 }
 
-// Where a list's length stands; a place past the last is the last.
-fn length_place(which: usize) -> usize {
-    LENGTHS + least(which, JOURNAL)
+// The word at a place, 0 past the end.
+fn word_of(words: &[u64], i: usize) -> u64 {
+    words.get(i).copied().unwrap_or(0)
 }
 
-pub fn length_of(tables: &[u64], which: usize) -> usize {
-    let at = length_place(which);
-    if at < tables.len() {
-        tables[at] as usize
-    } else {
-        0
-    }
+pub fn length_of(tables: &[u64], which: List) -> usize {
+    word_of(tables, LENGTHS + which as usize) as usize
 }
 
 // The words of a table, or the numbers that are given to a call.
-pub fn words_of(tables: &[u64], which: usize) -> &[u64] {
-    let first = least(least(which, GIVEN) * ROOM, tables.len());
-    let end = first + least(length_of(tables, which), tables.len() - first);
+pub fn words_of(tables: &[u64], which: List) -> &[u64] {
+    let first = (which as usize * ROOM).min(tables.len());
+    let end = first + length_of(tables, which).min(tables.len() - first);
     &tables[first..end]
 }
 
 // A number that is given to a call.
 pub fn given(tables: &[u64], i: usize) -> u64 {
-    let numbers = words_of(tables, GIVEN);
-    if i < numbers.len() { numbers[i] } else { 0 }
+    word_of(words_of(tables, List::Given), i)
 }
 
 // The first words over and over, up to a length.
 fn repeat(words: &mut [u64], first: usize, end: usize)
     requires { end ≤ length words.old }
 {
-    let mut i = first;
-    while i < end {
+    for i in first..end {
         words[i] = words[i - first];
-        i += 1;
     }
 }
 
@@ -91,26 +77,24 @@ fn repeat(words: &mut [u64], first: usize, end: usize)
 const MARK: u64 = 1000;
 
 fn mark(words: &mut [u64]) {
-    let mut i = 0;
-    while i < words.len() {
-        words[i] = i as u64 + MARK;
-        i += 1;
+    for (i, word) in words.iter_mut().enumerate() {
+        *word = i as u64 + MARK;
     }
 }
 
 // `n k w..`: a table of n words, the k given ones over and over. The place after it.
 pub fn set_table(sign: u8, text: &[u8], at: usize, tables: &mut [u64]) -> usize {
     let which = table_of(sign);
-    let first = least(least(which, GIVEN) * ROOM, tables.len());
-    let room = least(ROOM, tables.len() - first);
+    let first = (which as usize * ROOM).min(tables.len());
+    let room = ROOM.min(tables.len() - first);
     let all = token_at(text, at);
     let given = token_at(text, all.next);
     let count = given.number() as usize;
-    let end = least(all.number() as usize, room);
+    let end = (all.number() as usize).min(room);
     let words = &mut tables[first..first + room];
     let next = fill(text, given.next, words, count);
     repeat(words, count, end);
-    put(tables, length_place(which), end as u64);
+    put(tables, LENGTHS + which as usize, end as u64);
     next
 }
 
@@ -119,14 +103,14 @@ pub fn set_lent(
     text: &[u8],
     at: usize,
     words: &mut [u64],
-    which: usize,
+    which: List,
     tables: &mut [u64],
 ) -> usize {
     let all = token_at(text, at);
     let given = token_at(text, all.next);
-    let end = least(all.number() as usize, words.len());
-    let lent = &mut words[0..end];
+    let end = (all.number() as usize).min(words.len());
+    let lent = &mut words[..end];
     mark(lent);
-    put(tables, length_place(which), end as u64);
+    put(tables, LENGTHS + which as usize, end as u64);
     fill(text, given.next, lent, given.number() as usize)
 }

@@ -5,7 +5,7 @@
 // e: journal_length. o: open. f: forward, given a reply. b: back. u: run, given an allowance. c: check. n: frame, given a row. v: resolve, given a row, into memory. s: the access sets, given a row, into memory and journal.
 // w: a walk's next reference, given the first node and the count; r: the next ones, into memory. l: the loader's look, given a row and its family.
 use crate::call::call;
-use crate::lent::{JOURNAL, JOURNAL_WORDS, MEMORY, MEMORY_WORDS, TABLE_WORDS, set_lent, set_table};
+use crate::lent::{JOURNAL_WORDS, List, MEMORY_WORDS, TABLE_WORDS, set_lent, set_table};
 use crate::print;
 use script::fill::{fill, put};
 use script::line::{line_at, part};
@@ -38,8 +38,8 @@ fn command(
 ) -> usize {
     match sign {
         b'=' => heading(text, at),
-        b'M' => set_lent(text, at, memory, MEMORY, tables),
-        b'J' => set_lent(text, at, journal, JOURNAL, tables),
+        b'M' => set_lent(text, at, memory, List::Memory, tables),
+        b'J' => set_lent(text, at, journal, List::Journal, tables),
         b'A'..=b'R' => set_table(sign, text, at, tables),
         b't' => plant(text, at, tables),
         b'm' => plant(text, at, memory),
@@ -61,8 +61,7 @@ pub fn play(text: &[u8]) {
     let mut position = [0; 3];
     let mut place = [0; 1];
     let mut at = 0;
-    let mut turns = text.len();
-    while turns > 0 {
+    for _ in 0..text.len() {
         let token = token_at(text, at);
         if token.is_end() {
             return;
@@ -77,6 +76,5 @@ pub fn play(text: &[u8]) {
             &mut position,
             &mut place,
         );
-        turns -= 1;
     }
 }

@@ -1,6 +1,5 @@
 // Parts of a line: the call and its number, the words of its answer, and the words that changed, with bars between.
 use script::descriptor::STDOUT_FILENO;
-use script::line::least;
 
 // What an out-array holds before a call; no answer of the cases has this word.
 pub const UNWRITTEN: u64 = 0x5555555555555555;
@@ -21,36 +20,23 @@ pub fn answered(name: &[u8], refusal: u64) {
     text(b" |");
 }
 
-fn word(w: u64) {
-    if w != UNWRITTEN {
-        number(w);
-    }
-}
-
 // The words of an out-array that the call wrote.
 pub fn written(out: &[u64]) {
-    let mut i = 0;
-    while i < out.len() {
-        word(out[i]);
-        i += 1;
+    for &word in out {
+        if word != UNWRITTEN {
+            number(word);
+        }
     }
 }
 
-// A word that a call changed, as its index and what it holds then.
-fn change(i: usize, before: u64, after: u64) {
-    if before != after {
-        number(i as u64);
-        text(b":");
-        io::print_decimal(STDOUT_FILENO, after);
-    }
-}
-
+// The words that a call changed, each as its index and what it holds then.
 pub fn changes(before: &[u64], after: &[u64]) {
     text(b" |");
-    let end = least(before.len(), after.len());
-    let mut i = 0;
-    while i < end {
-        change(i, before[i], after[i]);
-        i += 1;
+    for (i, (&old, &new)) in before.iter().zip(after).enumerate() {
+        if old != new {
+            number(i as u64);
+            text(b":");
+            io::print_decimal(STDOUT_FILENO, new);
+        }
     }
 }

@@ -1,7 +1,5 @@
 // A session's calls, and the journal's length before one, through their C forms. A refusal keeps the position, which is written either way.
-use crate::lent::{
-    ARGUMENTS, EXTERNS, GIVEN, INSTRUCTIONS, NODES, PARAMETERS, REGIONS, given, words_of,
-};
+use crate::lent::{List, given, words_of};
 use crate::print::{answered, written};
 use console_c::back::console_back;
 use console_c::forward::console_forward;
@@ -11,12 +9,12 @@ use console_c::run::console_run;
 
 pub fn journal_length(tables: &[u64], entries: &mut [u64; 1], error: &mut [u64; 6]) {
     let number = console_journal_length(
-        words_of(tables, REGIONS),
-        words_of(tables, EXTERNS),
-        words_of(tables, PARAMETERS),
-        words_of(tables, NODES),
-        words_of(tables, ARGUMENTS),
-        words_of(tables, INSTRUCTIONS),
+        words_of(tables, List::Regions),
+        words_of(tables, List::Externs),
+        words_of(tables, List::Parameters),
+        words_of(tables, List::Nodes),
+        words_of(tables, List::Arguments),
+        words_of(tables, List::Instructions),
         entries,
         error,
     );
@@ -33,12 +31,12 @@ pub fn open(
     error: &mut [u64; 6],
 ) {
     let number = console_open(
-        words_of(tables, REGIONS),
-        words_of(tables, EXTERNS),
-        words_of(tables, PARAMETERS),
-        words_of(tables, NODES),
-        words_of(tables, ARGUMENTS),
-        words_of(tables, INSTRUCTIONS),
+        words_of(tables, List::Regions),
+        words_of(tables, List::Externs),
+        words_of(tables, List::Parameters),
+        words_of(tables, List::Nodes),
+        words_of(tables, List::Arguments),
+        words_of(tables, List::Instructions),
         memory,
         journal,
         position,
@@ -51,16 +49,16 @@ pub fn open(
 
 pub fn forward(tables: &[u64], memory: &mut [u64], journal: &mut [u64], position: &mut [u64; 3]) {
     let number = console_forward(
-        words_of(tables, REGIONS),
-        words_of(tables, EXTERNS),
-        words_of(tables, PARAMETERS),
-        words_of(tables, NODES),
-        words_of(tables, ARGUMENTS),
-        words_of(tables, INSTRUCTIONS),
+        words_of(tables, List::Regions),
+        words_of(tables, List::Externs),
+        words_of(tables, List::Parameters),
+        words_of(tables, List::Nodes),
+        words_of(tables, List::Arguments),
+        words_of(tables, List::Instructions),
         memory,
         journal,
         position,
-        words_of(tables, GIVEN),
+        words_of(tables, List::Given),
     );
     answered(b"forward", number);
     written(position);
@@ -68,12 +66,12 @@ pub fn forward(tables: &[u64], memory: &mut [u64], journal: &mut [u64], position
 
 pub fn back(tables: &[u64], memory: &mut [u64], journal: &[u64], position: &mut [u64; 3]) {
     let number = console_back(
-        words_of(tables, REGIONS),
-        words_of(tables, EXTERNS),
-        words_of(tables, PARAMETERS),
-        words_of(tables, NODES),
-        words_of(tables, ARGUMENTS),
-        words_of(tables, INSTRUCTIONS),
+        words_of(tables, List::Regions),
+        words_of(tables, List::Externs),
+        words_of(tables, List::Parameters),
+        words_of(tables, List::Nodes),
+        words_of(tables, List::Arguments),
+        words_of(tables, List::Instructions),
         memory,
         journal,
         position,
@@ -90,12 +88,12 @@ pub fn run(
     ran: &mut [u64; 3],
 ) {
     let number = console_run(
-        words_of(tables, REGIONS),
-        words_of(tables, EXTERNS),
-        words_of(tables, PARAMETERS),
-        words_of(tables, NODES),
-        words_of(tables, ARGUMENTS),
-        words_of(tables, INSTRUCTIONS),
+        words_of(tables, List::Regions),
+        words_of(tables, List::Externs),
+        words_of(tables, List::Parameters),
+        words_of(tables, List::Nodes),
+        words_of(tables, List::Arguments),
+        words_of(tables, List::Instructions),
         memory,
         journal,
         position,

@@ -5,7 +5,7 @@
 use real_text::decimal::read_decimal;
 use real_text::text::text_of;
 use script::descriptor::{STDIN_FILENO, STDOUT_FILENO};
-use script::line::{line_at, part, same, word_at};
+use script::line::{line_at, part, word_at};
 use script::number::read_number;
 use words::convert::{Converted, integer_to_real, real_to_integer};
 
@@ -17,8 +17,7 @@ fn write_real(word: u64) {
 }
 
 fn write_short(word: &[u8]) {
-    let reading = read_decimal(word);
-    match reading {
+    match read_decimal(word) {
         real_text::decimal::Reading::Word(bits) => {
             io::print_hex(STDOUT_FILENO, bits, 16);
             io::write_all(STDOUT_FILENO, b" ");
@@ -35,8 +34,7 @@ fn write_word(word: &[u8]) {
         write_short(word);
         return;
     }
-    let reading = read_number(word);
-    match reading {
+    match read_number(word) {
         script::number::Reading::Number(bits) => write_real(bits),
         _ => write_short(word),
     }
@@ -48,8 +46,7 @@ fn write_bits(bits: u64) {
 }
 
 fn write_integer(real: u64) {
-    let converted = real_to_integer(real);
-    match converted {
+    match real_to_integer(real) {
         Converted::Word(integer) => write_bits(integer),
         Converted::Outside => {
             io::write_all(STDOUT_FILENO, b"outside\n");
@@ -58,20 +55,17 @@ fn write_integer(real: u64) {
 }
 
 fn write_converted(way: &[u8], bits: u64) {
-    if same(way, b"to-real") {
-        write_bits(integer_to_real(bits));
-        return;
+    match way {
+        b"to-real" => write_bits(integer_to_real(bits)),
+        b"to-integer" => write_integer(bits),
+        _ => {
+            io::write_all(STDOUT_FILENO, b"no conversion\n");
+        }
     }
-    if same(way, b"to-integer") {
-        write_integer(bits);
-        return;
-    }
-    io::write_all(STDOUT_FILENO, b"no conversion\n");
 }
 
 fn convert(way: &[u8], word: &[u8]) {
-    let reading = read_number(word);
-    match reading {
+    match read_number(word) {
         script::number::Reading::Number(bits) => write_converted(way, bits),
         _ => {
             io::write_all(STDOUT_FILENO, b"no number\n");
@@ -93,18 +87,13 @@ fn write_line(line: &[u8]) {
 }
 
 fn each_line(text: &[u8]) {
-    let mut at = 0;
-    let mut turns = text.len();
-    while turns > 0 {
-        let line = line_at(text, at);
-        write_line(part(text, line.start, line.end));
-        at = line.next;
-        turns -= 1;
+    for line in text.split(|&byte| byte == b'\n') {
+        write_line(part(line, 0, line_at(line, 0).end));
     }
 }
 
 fn main() {
     let mut text = io::large_buffer();
     let count = io::read_full(STDIN_FILENO, &mut text);
-    each_line(&text[0..count]);
+    each_line(&text[..count]);
 }

@@ -1,6 +1,6 @@
 -- Forward's parts: the row at a position, what its functions ask for, a step's end (13 or the writes), and a step in a memory whose first words are the cells.
 -- Assumes nothing.
-use Rattle.std.proofs.Common.{ℕ, ◌+◌, ◌*◌, ◌-◌, ◌<◌, ◌≤◌, Bool, true, false, List, [], ◌∷◌, ◌++◌, ◌≡◌, refl, arith, length, take, drop, ltb, leb, Ok, Err}
+use Rattle.std.proofs.Common.{ℕ, zero, suc, All, ◌+◌, ◌*◌, ◌-◌, ◌<◌, ◌≤◌, Bool, true, false, List, [], ◌∷◌, ◌++◌, ◌≡◌, refl, arith, length, take, drop, ltb, leb, Ok, Err}
 use borrow.Author.Tests.{ltb-true, leb-true}
 use Rattle.tables.specs.declared.refusal.Refusal.{Refusal}
 use Rattle.tables.specs.Refusal.{foreign_position, at_end, journal_full}
@@ -105,11 +105,10 @@ module _ {regions externs parameters arguments instructions cells : List ℕ} {j
   }
 
 -- the cells of a plain row's writes are there
-pub one-there : {regions cells : List ℕ} {w : Write} → Layout regions cells → Each (Within regions) (w ∷ []) → There cells w.cell
-one-there l (also h none) = in_cells l h
-
-pub two_there : {regions cells : List ℕ} {v w : Write} → Layout regions cells → Each (Within regions) (v ∷ w ∷ []) → There cells v.cell × There cells w.cell
-two_there l (also h (also k none)) = (in_cells l h, in_cells l k)
+pub all_there : {regions cells : List ℕ} {ws : List Write} → Layout regions cells → Each (Within regions) ws → All (λ w. There cells w.cell) ws
+all_there l none k d h = absurd (omega arith)
+all_there l (also w ws) zero d h = in_cells l w
+all_there l (also w ws) (suc k) d h = all_there l ws k d (omega arith)
 
 -- ---- a step's end
 

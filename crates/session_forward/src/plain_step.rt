@@ -1,5 +1,5 @@
 // A row that is no CALL: its outcome, then its writes with their entries.
-ghost use Rattle.std.specs.Prelude.{◌≡◌, List, [], ◌∷◌, ℕ, length, Ok};
+ghost use Rattle.std.specs.Prelude.{◌≡◌, ◌<◌, length, All};
 ghost use Rattle.operands.specs.Reach.{There};
 ghost use Rattle.machine.specs.Outcome.{plain_outcome};
 ghost use Rattle.machine.specs.Reach.{Opened};
@@ -7,7 +7,7 @@ ghost use Rattle.session_forward.specs.Forward.{left};
 ghost use Rattle.session_forward.specs.Step.{row_leaves, Placed};
 
 use journal::cells::Write;
-use journal::entries::{ENTRY_WIDTH, close, write_one, write_two};
+use journal::entries::{ENTRY_WIDTH, close, write_cell};
 use journal::position::Position;
 use machine::outcome::{Writes, plain_outcome};
 use session::answer::StepAnswer;
@@ -15,58 +15,30 @@ use session::position::has_room;
 use tables::refusal::Refusal;
 use tables::rows::Instruction;
 
-// A step that writes nothing; the cells stay, whatever they are.
-fn step_none(journal: &mut [u64], p: Position, next: usize) -> StepAnswer
-    requires { Placed (length journal.old) p }
-    ensures { (cells : List ℕ) → left result cells journal.new ≡ row_leaves cells journal.old p next (Ok []) }
-{
-    let used = p.used;
-    let row = p.row;
-    if !has_room(journal.len() / ENTRY_WIDTH, p, 0) {
-        return Err((Refusal::JournalFull, p));
-    }
-    close(journal, used, 0, row);
-    Ok(p.advance(next, 0))
-}
-
-fn step_one(
+// A step of these writes, in this order.
+fn step_writes(
     cells: &mut [u64],
     journal: &mut [u64],
     p: Position,
     next: usize,
-    w: Write,
+    writes: &[Write],
 ) -> StepAnswer
-    requires { (Placed (length journal.old) p) × (There cells.old w.cell) }
-    ensures { left result cells.new journal.new ≡ row_leaves cells.old journal.old p next (Ok (w ∷ [])) }
+    requires placed { Placed (length journal.old) p }
+    requires there { All (λ w. There cells.old w.cell) writes.now }
+    requires few { length writes.now < 3 }
+    ensures { left result cells.new journal.new ≡ row_leaves cells.old journal.old p next (Ok writes.now) }
 {
     let used = p.used;
     let row = p.row;
-    if !has_room(journal.len() / ENTRY_WIDTH, p, 1) {
+    let changes = writes.len();
+    if !has_room(journal.len() / ENTRY_WIDTH, p, changes) {
         return Err((Refusal::JournalFull, p));
     }
-    write_one(cells, journal, used, row, w);
-    Ok(p.advance(next, 1))
-}
-
-// The writes are made in this order.
-fn step_two(
-    cells: &mut [u64],
-    journal: &mut [u64],
-    p: Position,
-    next: usize,
-    v: Write,
-    w: Write,
-) -> StepAnswer
-    requires { (Placed (length journal.old) p) × (There cells.old v.cell) × (There cells.old w.cell) }
-    ensures { left result cells.new journal.new ≡ row_leaves cells.old journal.old p next (Ok (v ∷ w ∷ [])) }
-{
-    let used = p.used;
-    let row = p.row;
-    if !has_room(journal.len() / ENTRY_WIDTH, p, 2) {
-        return Err((Refusal::JournalFull, p));
+    for (i, w) in writes.iter().enumerate() {
+        write_cell(cells, journal, used + i, Write { ..*w });
     }
-    write_two(cells, journal, used, row, v, w);
-    Ok(p.advance(next, 2))
+    close(journal, used + changes, changes, row);
+    Ok(p.advance(next, changes))
 }
 
 // A step that leads to row `next`.
@@ -84,8 +56,8 @@ pub fn plain_step(
 {
     match plain_outcome(regions, cells, x, reply) {
         Err(refusal) => Err((refusal, p)),
-        Ok(Writes::Nothing) => step_none(journal, p, next),
-        Ok(Writes::One(w)) => step_one(cells, journal, p, next, w),
-        Ok(Writes::Two(v, w)) => step_two(cells, journal, p, next, v, w),
+        Ok(Writes::Nothing) => step_writes(cells, journal, p, next, &[]),
+        Ok(Writes::One(w)) => step_writes(cells, journal, p, next, &[w]),
+        Ok(Writes::Two(v, w)) => step_writes(cells, journal, p, next, &[v, w]),
     }
 }

@@ -1,7 +1,7 @@
 -- The claim on run: every run is that many forwards. No premises, no axioms.
 use Rattle.session.specs.Answer.{StepAnswer}
 use Rattle.std.proofs.Common.{Ok, Err}
-use Prim.Native.Nat.{ℕ, zero, suc, ◌+◌, ◌*◌, ◌<◌, ◌≤◌}
+use Prim.Native.Nat.{ℕ, zero, suc, ◌+◌, ◌*◌, ◌<◌}
 use mathlib.Core.Bool.{Bool, true, false, cond}
 use mathlib.Core.List.{List, []}
 use mathlib.Core.Path.{◌≡◌, refl, sym, ap, ◌∙◌, subst}
@@ -28,7 +28,7 @@ use Rattle.session.specs.declared.answer.Stop.{Stop}
 use Rattle.session.specs.declared.answer.Stop.TheVariants.{Allowance, End, Call, Refusal}
 use Rattle.session_forward.specs.Forward.{Left, left, step_look, forward_look, stepped, forward_tables}
 use Rattle.session_run.specs.Run.{Running, stopped, onward, turn, run_by, forward_step, unless_refused, run_tables}
-use Rattle.session_run.specs.Claim.{forward_from, forwards, Moves, BeforeCall, AtRefusal, Says, RunIs, ended, lent, Runs, RunClaim}
+use Rattle.session_run.specs.Claim.{forward_from, forwards, Moves, BeforeCall, Says, RunIs, ended, lent, Runs, RunClaim}
 
 module _ (t : Tables) where
   abbrev rows : ℕ

@@ -1,5 +1,5 @@
 -- How run takes a step in the code, behind 1, 2, 3, 10, 4 and 19, on the cells alone.
-use Rattle.std.specs.Prelude.{ℕ, List, [], length, ControlFlow, Continue, Break}
+use Rattle.std.specs.Prelude.{ℕ, List, [], Result, Ok, Err, length}
 use Rattle.tables.specs.Refusal.{foreign_position}
 use Rattle.tables.specs.Outcome.{need}
 use Rattle.tables.specs.Tables.{Tables}
@@ -7,6 +7,7 @@ use Rattle.journal.specs.declared.position.Position.{Position}
 use Rattle.control_flow.specs.Next.{next_row}
 use Rattle.session.specs.Prepare.{entries_of}
 use Rattle.session.specs.Position.{position_fits}
+use Rattle.session.specs.declared.answer.Stop.{Stop}
 use Rattle.session_forward.specs.Forward.{stepped}
 use Rattle.session_forward.specs.Step.{row_look}
 use Rattle.session_run.specs.Run.{Step, Rest, Running, stopped, run_by, unless_refused}
@@ -16,10 +17,10 @@ abbrev pub cell_step : Tables → Step
 cell_step t cells journal p =
     stepped cells journal p (next_row t.regions t.instructions cells p.row) (row_look t cells (entries_of (length journal)) p [])
 
--- the answer `Turn` of the code: how the run goes on
-abbrev pub after_turn : Rest → ℕ → List ℕ → List ℕ → ControlFlow (Stop × Position) Position → Running
-after_turn rest taken cells journal (Continue p) = rest cells journal p
-after_turn rest taken cells journal (Break (stop, p)) = stopped taken stop p cells journal
+-- how the run goes on from a turn: from the position after a step, or not, where it was not taken
+abbrev pub after_turn : Rest → ℕ → List ℕ → List ℕ → Result Position (Stop × Position) → Running
+after_turn rest taken cells journal (Ok p) = rest cells journal p
+after_turn rest taken cells journal (Err (stop, p)) = stopped taken stop p cells journal
 
 -- 19, then the run
 unfoldable pub run_cells : Tables → List ℕ → List ℕ → Position → ℕ → Running

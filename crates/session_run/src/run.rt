@@ -6,24 +6,27 @@ ghost use Rattle.session_forward.specs.Step.{Steppable};
 ghost use Rattle.session_run.specs.Run.{Rest, running, onward, turn, run_by};
 ghost use Rattle.session_run.specs.Turn.{cell_step, after_turn, run_cells};
 
-use std::ops::ControlFlow;
 use journal::entries::ENTRY_WIDTH;
 use journal::position::Position;
 use labels::labels::{NO_ROW, find_targets};
 use session::answer::{RunAnswer, StepAnswer, Stop};
 use session::position::position_fits;
 use session_forward::step::step_row;
+use std::ops::ControlFlow;
 use tables::family::CALL;
 use tables::refusal::Refusal;
 use tables::rows::{INSTRUCTION_LIMIT, INSTRUCTION_WIDTH, instruction_at};
+
+// What a turn comes to: the position after a step, or why it was not taken with the position as it was.
+type Turn = Result<Position, (Stop, Position)>;
 
 // What a forward comes to.
 fn turn_of(answer: StepAnswer) -> ControlFlow<(Stop, Position), Position>
     ensures { (rest : Rest) (taken : ℕ) (cells journal : List ℕ) → after_turn rest taken cells journal result ≡ onward rest taken cells journal answer }
 {
     match answer {
-        Ok(p) => ControlFlow::Continue(p),
-        Err((number, p)) => ControlFlow::Break((Stop::Refusal(number), p)),
+        Ok(p) => Ok(p),
+        Err((number, p)) => Err((Stop::Refusal(number), p)),
     }
 }
 
@@ -45,11 +48,11 @@ fn take_turn(
 {
     let row = p.row;
     if instructions.len() / INSTRUCTION_WIDTH <= row {
-        return ControlFlow::Break((Stop::End, p));
+        return Err((Stop::End, p));
     }
     let x = instruction_at(instructions, row);
     if x.family == CALL {
-        return ControlFlow::Break((Stop::Call, p));
+        return Err((Stop::Call, p));
     }
     let answer = step_row(
         regions,
@@ -84,9 +87,8 @@ pub fn run_rows(
     requires { Steppable regions.now externs.now parameters.now arguments.now instructions.now cells.old (length journal.old) × LabelsKnown instructions.now fit targets.now }
     ensures { (nodes : List ℕ) → running result cells.new journal.new ≡ run_by (cell_step (tables_of regions.now externs.now parameters.now nodes arguments.now instructions.now)) instructions.now allowance 0 cells.old journal.old p }
 {
-    let mut taken = 0;
     let mut position = p;
-    while taken < allowance {
+    for taken in 0..allowance {
         let turn = take_turn(
             regions,
             externs,
@@ -100,14 +102,11 @@ pub fn run_rows(
             position,
         );
         match turn {
-            ControlFlow::Break((stop, at)) => return Ok((taken, stop, at)),
-            ControlFlow::Continue(next) => {
-                position = next;
-                taken += 1;
-            }
+            Err((stop, at)) => return Ok((taken, stop, at)),
+            Ok(next) => position = next,
         }
     }
-    Ok((taken, Stop::Allowance, position))
+    Ok((allowance, Stop::Allowance, position))
 }
 
 // Run behind 1, 2, 3, 10 and 4: the position and the labels of the program are looked at once, and each jump's target is found.

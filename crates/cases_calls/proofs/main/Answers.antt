@@ -1,6 +1,5 @@
-use Prim.Native.Nat.{ℕ}
-use mathlib.Core.Path.{sym}
-use lib.ListN.{length-replicate}
+use Rattle.std.proofs.Common.{ℕ, sym}
+use Rattle.std.proofs.lemmas.List.{length-replicate}
 use Rattle.cases_calls.proofs.main.Goals as goal
 
 -- `cases_calls::main` is safe and ends. The buffer's length by a law, since `search` would count its bytes. Assumes nothing.

@@ -1,7 +1,7 @@
 use Rattle.std.proofs.Common.{rules}
 use Rattle.tables.proofs.RowsLaws.{every-from_all}
 use Rattle.call_reply.specs.Call.{scalars_fit}
-use Rattle.call_reply.proofs.call.scalars_fit.Goals as goal
+use Rattle.call_reply.proofs.call.Looked.scalars_fit.Goals as goal
 
 pub returns : goal.returns
 unfolding scalars_fit

@@ -2,7 +2,7 @@ use Rattle.std.proofs.Common.{rules, sym, ◌∙◌}
 use borrow.Author.Tests.{not-true, not-false}
 use Rattle.tables.proofs.RowsLaws.{every-from_all}
 use Rattle.call_reply.specs.Call.{reply_fits}
-use Rattle.call_reply.proofs.call.reply_fits.Goals as goal
+use Rattle.call_reply.proofs.call.Looked.reply_fits.Goals as goal
 
 pub returns-then-not-reply_length_fits : goal.returns-then-not-reply_length_fits
 unfolding reply_fits
