@@ -6,13 +6,13 @@ ghost use Rattle.session_forward.specs.Step.{Steppable};
 ghost use Rattle.session_run.specs.Run.{Rest, running, onward, turn, run_by};
 ghost use Rattle.session_run.specs.Turn.{cell_step, after_turn, run_cells};
 
-use std::ops::ControlFlow;
 use journal::entries::ENTRY_WIDTH;
 use journal::position::Position;
 use labels::labels::{NO_ROW, find_targets};
 use session::answer::{RunAnswer, StepAnswer, Stop};
 use session::position::position_fits;
 use session_forward::step::step_row;
+use std::ops::ControlFlow;
 use tables::family::CALL;
 use tables::refusal::Refusal;
 use tables::rows::{INSTRUCTION_LIMIT, INSTRUCTION_WIDTH, instruction_at};
@@ -23,7 +23,7 @@ fn turn_of(answer: StepAnswer) -> ControlFlow<(Stop, Position), Position>
 {
     match answer {
         Ok(p) => ControlFlow::Continue(p),
-        Err((number, p)) => ControlFlow::Break((Stop::Refusal(number), p)),
+        Err((refusal, p)) => ControlFlow::Break((Stop::Refusal(refusal), p)),
     }
 }
 

@@ -1,6 +1,4 @@
-use Prim.Native.Nat.{◌-◌}
-use mathlib.Core.Path.{refl, sym, ap, ◌∙◌}
-use Rattle.std.specs.Prelude.{◌+◌}
+use Rattle.std.proofs.Common.{◌+◌, ◌-◌, refl, sym, ap, ◌∙◌}
 use Rattle.tables.specs.Tables.{Tables, tables_of}
 use Rattle.session_run.specs.Run.{Rest, run_by}
 use Rattle.session_run.specs.Turn.{after_turn, cell_step}
