@@ -1,10 +1,7 @@
 -- What the call tells of the nodes looked at, as specs/Frame.antt claims it. Assumes nothing.
+use Rattle.std.proofs.Common.{ℕ, ◌≡◌, arith, Ok, Err, Result}
 use Rattle.console.specs.declared.frame.FrameError.{FrameError}
 use Rattle.console.specs.declared.frame.FrameError.TheVariants as F
-use Rattle.std.proofs.Common.{Ok, Err, Result}
-use Prim.Native.Nat.{ℕ}
-use mathlib.Core.Path.{◌≡◌}
-use native.Mathlib.Omega.{arith}
 use Rattle.tables.specs.Outcome.{Outcome}
 use Rattle.tables.specs.Family as family
 use Rattle.tables.specs.Rows.{instruction_at}

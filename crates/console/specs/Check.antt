@@ -1,8 +1,8 @@
 -- 01, Order: "Check: 1, 2, 3, 5."
+use Rattle.std.specs.Prelude.{ℕ, Result, Ok, Err}
 use Rattle.type_rules.specs.declared.error.ProgramError.{ProgramError}
 use Rattle.type_rules.specs.declared.error.ProgramError.TheVariants as P
 use Rattle.type_rules.specs.declared.error.TypeError.{TypeError}
-use Rattle.std.specs.Prelude.{ℕ, Result, Ok, Err}
 use Rattle.tables.specs.Refusal.{refusal_number, type_error}
 use Rattle.tables.specs.Tables.{Tables}
 use Rattle.loader.specs.Load.{load_look}

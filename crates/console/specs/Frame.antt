@@ -1,8 +1,8 @@
 -- 02, P3, of one frame: its verdict, and the nodes that its check looked at. Order (DECISIONS C6): 1, 2 (the chosen row is absent or no frame), 3, 5.
+use Rattle.std.specs.Prelude.{ℕ, ◌+◌, List, [], ◌∷◌, ◌≡◌, Result, Ok, Err}
 use Rattle.console.specs.declared.frame.FrameError.{FrameError}
 use Rattle.console.specs.declared.frame.FrameError.TheVariants as F
 use Rattle.type_rules.specs.declared.error.TypeError.{TypeError}
-use Rattle.std.specs.Prelude.{ℕ, ◌+◌, List, [], ◌∷◌, ◌≡◌, Result, Ok, Err}
 use Rattle.tables.specs.Refusal.{refusal_number, type_error}
 use Rattle.tables.specs.Tables.{Tables}
 use Rattle.tables.specs.Family as family

@@ -1,10 +1,10 @@
 -- 01, Order: "Walk (nodes alone; the rest take every table): 1, 2."
+use Rattle.std.specs.Prelude.{ℕ, List, [], ◌∷◌, Option, Some, None, Ok, Err}
 use Rattle.tables.specs.Refusal.{refusal_number}
 use Rattle.tables.specs.Outcome.{Outcome}
 use Rattle.memory.specs.declared.batch.Handed.{Handed}
 use Rattle.memory.specs.declared.MemoryReference.{MemoryReference}
 use Rattle.memory.specs.declared.Stepped.{Stepped}
-use Rattle.std.specs.Prelude.{ℕ, List, [], ◌∷◌, Option, Some, None, Ok, Err}
 use Rattle.loader.specs.Load.{load_nodes_look}
 use Rattle.memory.specs.References.{next_in}
 use Rattle.memory.specs.Batch.{Handing, hand_out_in}

@@ -1,6 +1,6 @@
 -- 01, Order: "Resolve: 1, 2, 3, 6, 7, 4 (7 words an argument), 8." "It writes nothing, but 8 in resolve writes its error rows and returns their count."
-use Rattle.extern_call.specs.declared.rows.ResolveError.TheVariants as E
 use Rattle.std.specs.Prelude.{ℕ, List, Err}
+use Rattle.extern_call.specs.declared.rows.ResolveError.TheVariants as E
 use Rattle.tables.specs.Tables.{Tables}
 use Rattle.tables.specs.Family as family
 use Rattle.tables.specs.Rows.{instruction_at}

@@ -33,7 +33,7 @@ fn refusal_of(stop: Stop) -> u64
         Stop::Allowance => 0,
         Stop::End => 0,
         Stop::Call => 0,
-        Stop::Refusal(number) => number,
+        Stop::Refusal(refusal) => refusal.number(),
     }
 }
 

@@ -1,14 +1,7 @@
 -- Run in a memory whose first words are the cells. Assumes nothing.
-use Rattle.session.specs.Answer.{RunAnswer}
-use Rattle.session.specs.Answer.{StepAnswer}
-use Rattle.std.proofs.Common.{Ok, Err}
-use Prim.Native.Nat.{ℕ, zero, suc, ◌+◌, ◌*◌}
-use mathlib.Core.Bool.{Bool, true, false, cond}
-use mathlib.Core.List.{List, [], ◌++◌}
-use mathlib.Core.Path.{◌≡◌, refl, sym, ap, ap₂, ◌∙◌}
-use lib.ListN.{length, take, drop, length-append, take-append-drop}
+use Rattle.std.proofs.Common.{ℕ, zero, suc, ◌+◌, ◌*◌, Bool, true, false, cond, List, [], ◌++◌, ◌≡◌, refl, sym, ap, ap₂, ◌∙◌, length, take, drop, length-append, take-append-drop, leb, Ok, Err}
 use lib.Seq.{length-take-le, take_at, drop_at}
-use lib.Dec.{leb}
+use Rattle.tables.specs.declared.refusal.Refusal.{Refusal}
 use Rattle.tables.specs.Refusal.{foreign_position}
 use Rattle.tables.specs.Outcome.{Outcome, ◌>>=◌, ◌>>◌, need}
 use Rattle.tables.specs.Tables.{Tables}
@@ -20,6 +13,7 @@ use Rattle.journal.proofs.CellsLaws.{length-applied}
 use Rattle.journal.proofs.EntriesLaws.{length-journaled}
 use Rattle.machine.specs.Outcome.{is_call}
 use Rattle.control_flow.specs.Next.{next_row}
+use Rattle.session.specs.Answer.{StepAnswer, RunAnswer}
 use Rattle.session.specs.Prepare.{entries_of, prepared_of}
 use Rattle.session.specs.Position.{position_fits, placed_look}
 use Rattle.session.specs.Leaves.{extended}
@@ -124,7 +118,7 @@ module _ (t : Tables) (n : ℕ) where
 
 module _ (t : Tables) (memory journal : List ℕ) (p : Position) (allowance : ℕ) where
   -- 1, 2, 3, 10 or 4
-  pub run_unprepared : {number : ℕ} → prepared_of t (length memory) (length journal) ≡ Err number → running (Err (number, p)) memory journal ≡ run_tables t memory journal p allowance
+  pub run_unprepared : {number : Refusal} → prepared_of t (length memory) (length journal) ≡ Err number → running (Err (number, p)) memory journal ≡ run_tables t memory journal p allowance
   unfolding run_tables placed_look ◌>>=◌
   run_unprepared e = rw e
 

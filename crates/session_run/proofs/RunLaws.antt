@@ -1,16 +1,11 @@
 -- Run's turns, as its function takes them. Assumes nothing.
-use Rattle.session.specs.Answer.{StepAnswer}
-use Prim.Native.Nat.{ℕ, ◌+◌, ◌-◌, ◌<◌, ◌≤◌}
-use mathlib.Core.Bool.{true, false}
-use mathlib.Core.List.{List}
-use mathlib.Core.Path.{◌≡◌, ap, ◌∙◌}
-use native.Mathlib.Omega.{arith}
-use lib.ListN.{length}
+use Rattle.std.proofs.Common.{ℕ, ◌+◌, ◌-◌, ◌<◌, ◌≤◌, true, false, List, ◌≡◌, ap, ◌∙◌, arith, length}
 use borrow.Author.Tests.{le-leb, lt-leb}
 use Rattle.tables.specs.Rows.{instruction_rows, instruction_at}
 use Rattle.tables.proofs.FirstLaws.{left_suc}
 use Rattle.journal.specs.declared.position.Position.{Position}
 use Rattle.machine.specs.Outcome.{is_call}
+use Rattle.session.specs.Answer.{StepAnswer}
 use Rattle.session.specs.declared.answer.Stop.TheVariants.{Allowance, End, Call}
 use Rattle.session_forward.specs.Forward.{Left, left}
 use Rattle.session_forward.specs.Step.{Steppable}

@@ -1,14 +1,7 @@
 -- The claim on run: every run is that many forwards. No premises, no axioms.
-use Rattle.session.specs.Answer.{StepAnswer}
-use Rattle.std.proofs.Common.{Ok, Err}
-use Prim.Native.Nat.{ℕ, zero, suc, ◌+◌, ◌*◌, ◌<◌}
-use mathlib.Core.Bool.{Bool, true, false, cond}
-use mathlib.Core.List.{List, []}
-use mathlib.Core.Path.{◌≡◌, refl, sym, ap, ◌∙◌, subst}
-use native.Mathlib.Omega.{arith}
-use lib.ListN.{length, take, drop, take-append-drop}
-use lib.Dec.{leb, ltb}
+use Rattle.std.proofs.Common.{ℕ, zero, suc, ◌+◌, ◌*◌, ◌<◌, Bool, true, false, cond, List, [], ◌≡◌, refl, sym, ap, ◌∙◌, subst, arith, length, take, drop, take-append-drop, leb, ltb, Ok, Err}
 use borrow.Author.Tests.{leb-true, leb-false, ltb-true}
+use Rattle.tables.specs.declared.refusal.Refusal as R
 use Rattle.tables.specs.Outcome.{Outcome, ◌>>=◌}
 use Rattle.tables.specs.Tables.{Tables}
 use Rattle.tables.specs.Rows.{instruction_rows, instruction_at}
@@ -20,7 +13,7 @@ use Rattle.journal.specs.Cells.{cell_width}
 use Rattle.machine.specs.Outcome.{is_call}
 use Rattle.control_flow.specs.Next.{next_row}
 use Rattle.operands.proofs.Binds.{bound}
-use Rattle.session.specs.Answer.{position_of}
+use Rattle.session.specs.Answer.{StepAnswer, RunAnswer, position_of}
 use Rattle.session.specs.Leaves.{extended, with_tail}
 use Rattle.session.specs.Position.{placed_look}
 use Rattle.session.specs.Session.{Session, after}
@@ -29,6 +22,19 @@ use Rattle.session.specs.declared.answer.Stop.TheVariants.{Allowance, End, Call,
 use Rattle.session_forward.specs.Forward.{Left, left, step_look, forward_look, stepped, forward_tables}
 use Rattle.session_run.specs.Run.{Running, stopped, onward, turn, run_by, forward_step, unless_refused, run_tables}
 use Rattle.session_run.specs.Claim.{forward_from, forwards, Moves, BeforeCall, Says, RunIs, ended, lent, Runs, RunClaim}
+
+-- the parts of an answer
+abbrev steps_told : RunAnswer → ℕ
+steps_told (Ok (steps, stop, p)) = steps
+steps_told (Err (number, p)) = 0
+
+abbrev stop_told : RunAnswer → Stop
+stop_told (Ok (steps, stop, p)) = stop
+stop_told (Err (number, p)) = Allowance
+
+abbrev refusal_or : R.Refusal → RunAnswer → R.Refusal
+refusal_or other (Ok (steps, stop, p)) = other
+refusal_or other (Err (number, p)) = number
 
 module _ (t : Tables) where
   abbrev rows : ℕ
@@ -39,7 +45,7 @@ module _ (t : Tables) where
   -- it moves by one step, or leaves all as it was
   data Forwarded (s : Session) (l : Left) : Type 0 where
     moved : (p : Position) → l.answer ≡ Ok p → p.done ≡ s.position.done + 1 → Forwarded s l
-    refused : (number : ℕ) → l ≡ left (Err (number, s.position)) s.memory s.journal → Forwarded s l
+    refused : (number : R.Refusal) → l ≡ left (Err (number, s.position)) s.memory s.journal → Forwarded s l
 
   stepped_by : (s : Session) (w next : ℕ) (o : Outcome (List Write)) → Forwarded s (extended (stepped (take w s.memory) s.journal s.position next o) (drop w s.memory))
   unfolding stepped
@@ -174,9 +180,9 @@ module _ (t : Tables) where
     said : (allowance : ℕ) (r : Running) (steps : ℕ) (stop : Stop) (p' : Position) → Goes (lent t memory journal p) allowance 0 r → r.answer ≡ Ok (steps, stop, p')
         → RunIs t (lent t memory journal p) allowance steps stop (ended r)
     said allowance r steps stop p' g e =
-        let same : Ok (0 + g.steps, g.stop, g.position) ≡ Ok (steps, stop, p') = sym g.answer_is ∙ e in
-        let n : g.steps ≡ steps = (let z : 0 + g.steps ≡ steps = cc in omega arith) in
-        let q : g.stop ≡ stop = cc in
+        let same = sym g.answer_is ∙ e in
+        let n : g.steps ≡ steps = (let z : 0 + g.steps ≡ steps = ap steps_told same in omega arith) in
+        let q : g.stop ≡ stop = ap stop_told same in
         subst (λ (k : Stop). RunIs t (lent t memory journal p) allowance steps k (ended r)) q
         (subst (λ (k : ℕ). RunIs t (lent t memory journal p) allowance k g.stop (ended r)) n g.is)
 
@@ -186,18 +192,18 @@ module _ (t : Tables) where
     ran_is allowance steps stop p' (Err number) e = let z : ◌≡◌ {A = ℕ} 0 1 = cc in absurd (omega arith)
 
     -- forward makes the same looks first
-    forward-refused : (number : ℕ) → placed_look t (length memory) (length journal) p ≡ Err number → (forward_from t (lent t memory journal p)).answer ≡ Err (number, p)
+    forward-refused : (number : R.Refusal) → placed_look t (length memory) (length journal) p ≡ Err number → (forward_from t (lent t memory journal p)).answer ≡ Err (number, p)
     unfolding forward_tables with_tail forward_look stepped ◌>>=◌
     forward-refused number e = rw e
 
-    refused_is : (allowance number : ℕ) (p' : Position) (o : Outcome ℕ) → placed_look t (length memory) (length journal) p ≡ o
+    refused_is : (allowance : ℕ) (number : R.Refusal) (p' : Position) (o : Outcome ℕ) → placed_look t (length memory) (length journal) p ≡ o
         → (unless_refused o p memory journal (run allowance)).answer ≡ Err (number, p')
         → (ended (unless_refused o p memory journal (run allowance)) ≡ lent t memory journal p) × ((forward_from t (lent t memory journal p)).answer ≡ Err (number, p))
     refused_is allowance number p' (Ok n) h e =
         let g = goes allowance 0 (lent t memory journal p) in
-        let same : Ok (0 + g.steps, g.stop, g.position) ≡ Err (number, p') = sym g.answer_is ∙ e in
+        let same = sym g.answer_is ∙ e in
         let z : ◌≡◌ {A = ℕ} 0 1 = cc in absurd (omega arith)
-    refused_is allowance number p' (Err k) h e = let q : k ≡ number = cc in (refl, forward-refused number (h ∙ ap Err q))
+    refused_is allowance number p' (Err k) h e = let q : k ≡ number = ap (refusal_or k) e in (refl, forward-refused number (h ∙ ap Err q))
 
     none_is : (o : Outcome ℕ) → ended (unless_refused o p memory journal (run 0)) ≡ lent t memory journal p
     unfolding run_by

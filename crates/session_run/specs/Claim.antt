@@ -1,5 +1,6 @@
 -- 02, P4: what is claimed of every run, whatever it is lent. To be read without the proofs; Top.antt in proofs/ has the theorem. The quoted sentences are 02's and 01's.
 use Rattle.std.specs.Prelude.{ℕ, zero, suc, ◌+◌, ◌<◌, ◌≤◌, true, false, List, [], ◌≡◌, Ok, Err}
+use Rattle.tables.specs.declared.refusal.Refusal as R
 use Rattle.tables.specs.Tables.{Tables}
 use Rattle.tables.specs.Rows.{instruction_rows, instruction_at}
 use Rattle.journal.specs.declared.position.Position.{Position}
@@ -31,7 +32,7 @@ pub record BeforeCall (t : Tables) (s : Session) : Type 0 where
   pub call : is_call (instruction_at t.instructions s.position.row) ≡ true
 
 -- a session at a row that is no CALL, which a forward refuses
-pub record AtRefusal (t : Tables) (s : Session) (number : ℕ) : Type 0 where
+pub record AtRefusal (t : Tables) (s : Session) (number : R.Refusal) : Type 0 where
   pub row : s.position.row < instruction_rows t.instructions
   pub plain : is_call (instruction_at t.instructions s.position.row) ≡ false
   pub refused : (forward_from t s).answer ≡ Err (number, s.position)
@@ -69,7 +70,7 @@ module _ (t : Tables) (memory journal : List ℕ) (p : Position) where
     pub ran : (allowance steps : ℕ) (stop : Stop) (p' : Position) → (run_tables t memory journal p allowance).answer ≡ Ok (steps, stop, p')
         → RunIs t lent allowance steps stop (ended (run_tables t memory journal p allowance))
     -- "It makes forward's looks up to 19 first": a run is refused only where a forward is, with its number. "A refusal returns its number .. and the position as given", and writes nothing.
-    pub refused : (allowance number : ℕ) (p' : Position) → (run_tables t memory journal p allowance).answer ≡ Err (number, p')
+    pub refused : (allowance : ℕ) (number : R.Refusal) (p' : Position) → (run_tables t memory journal p allowance).answer ≡ Err (number, p')
         → (ended (run_tables t memory journal p allowance) ≡ lent) × ((forward_from t lent).answer ≡ Err (number, p))
     -- "and an allowance of 0 changes nothing"
     pub none : ended (run_tables t memory journal p 0) ≡ lent

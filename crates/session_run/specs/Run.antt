@@ -1,12 +1,11 @@
 -- 02, P4: "A run key is added: it stops after a stated number of steps and reports the number taken, or sooner only at the end, before a CALL or at a refusal, and says which."
-use Rattle.session.specs.Answer.{RunAnswer}
-use Rattle.session.specs.Answer.{StepAnswer}
 use Rattle.std.specs.Prelude.{ℕ, zero, suc, ◌+◌, cond, List, [], length, leb, Ok, Err}
 use Rattle.tables.specs.Outcome.{Outcome}
 use Rattle.tables.specs.Tables.{Tables}
 use Rattle.tables.specs.Rows.{instruction_rows, instruction_at}
 use Rattle.journal.specs.declared.position.Position.{Position}
 use Rattle.machine.specs.Outcome.{is_call}
+use Rattle.session.specs.Answer.{StepAnswer, RunAnswer}
 use Rattle.session.specs.Position.{placed_look}
 use Rattle.session.specs.Leaves.{Leaves, leaves}
 use Rattle.session.specs.declared.answer.Stop.{Stop}

@@ -1,5 +1,7 @@
 -- How run takes a step in the code, behind 1, 2, 3, 10, 4 and 19, on the cells alone.
-use Rattle.std.specs.Prelude.{ℕ, List, [], Result, Ok, Err, length}
+use Rattle.std.specs.Prelude.{ℕ, List, [], length}
+use Rattle.std.specs.declared.ops.ControlFlow.{ControlFlow}
+use Rattle.std.specs.declared.ops.ControlFlow.TheVariants.{Continue, Break}
 use Rattle.tables.specs.Refusal.{foreign_position}
 use Rattle.tables.specs.Outcome.{need}
 use Rattle.tables.specs.Tables.{Tables}
@@ -17,10 +19,10 @@ abbrev pub cell_step : Tables → Step
 cell_step t cells journal p =
     stepped cells journal p (next_row t.regions t.instructions cells p.row) (row_look t cells (entries_of (length journal)) p [])
 
--- how the run goes on from a turn: from the position after a step, or not, where it was not taken
-abbrev pub after_turn : Rest → ℕ → List ℕ → List ℕ → Result Position (Stop × Position) → Running
-after_turn rest taken cells journal (Ok p) = rest cells journal p
-after_turn rest taken cells journal (Err (stop, p)) = stopped taken stop p cells journal
+-- a turn's answer in the code: from a position the run goes on, at a stop it ends
+abbrev pub after_turn : Rest → ℕ → List ℕ → List ℕ → ControlFlow (Stop × Position) Position → Running
+after_turn rest taken cells journal (Continue p) = rest cells journal p
+after_turn rest taken cells journal (Break (stop, p)) = stopped taken stop p cells journal
 
 -- 19, then the run
 unfoldable pub run_cells : Tables → List ℕ → List ℕ → Position → ℕ → Running

@@ -25,8 +25,8 @@ fn turn_of(answer: StepAnswer) -> ControlFlow<(Stop, Position), Position>
     ensures { (rest : Rest) (taken : ℕ) (cells journal : List ℕ) → after_turn rest taken cells journal result ≡ onward rest taken cells journal answer }
 {
     match answer {
-        Ok(p) => Ok(p),
-        Err((number, p)) => Err((Stop::Refusal(number), p)),
+        Ok(p) => ControlFlow::Continue(p),
+        Err((refusal, p)) => ControlFlow::Break((Stop::Refusal(refusal), p)),
     }
 }
 

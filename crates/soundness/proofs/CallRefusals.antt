@@ -1,11 +1,8 @@
 -- A CALL is refused with 6, 7, 8, 14 or 17, so never with 18, nor with 13. Assumes nothing.
-use Prim.Native.Nat.{ℕ}
-use mathlib.Core.List.{List}
-use mathlib.Core.Path.{refl}
+use Rattle.std.proofs.Common.{ℕ, List, refl, Option, Some, None}
+use Rattle.tables.specs.declared.refusal.Refusal.{Refusal}
 use Rattle.tables.specs.Refusal.{extern_not_found, argument_count, argument_errors, index_past_length, unfit_reply}
 use Rattle.tables.specs.Lookup.{lookup_extern}
-use Rattle.tables.specs.declared.lookup.Found.{Found}
-use Rattle.tables.specs.declared.lookup.Found.TheVariants as L
 use Rattle.tables.specs.declared.rows.Instruction.{Instruction}
 use Rattle.extern_call.specs.Call.{found_extern, find_call, is_counted, all_resolve, resolves_call}
 use Rattle.extern_call.specs.declared.call.ExternCall.{ExternCall}
@@ -17,11 +14,11 @@ use Rattle.machine.proofs.Ends.{Ends, Ruled, fine, turned, bind, tested}
 abbrev pub Whatever : {A : Type 0} → A → Type 0
 Whatever a = Unit {0}
 
-found_ends : {R : ℕ → Type 0} → R extern_not_found → (f : Found) → Ends R (Whatever {A = ℕ}) (found_extern f)
-found_ends z (L.At row) = fine tt
-found_ends z L.Nothing = turned z
+found_ends : {R : Refusal → Type 0} → R extern_not_found → (f : Option ℕ) → Ends R (Whatever {A = ℕ}) (found_extern f)
+found_ends z (Some row) = fine tt
+found_ends z None = turned z
 
-pub find_ends : {R : ℕ → Type 0} (externs : List ℕ) (x : Instruction) → R extern_not_found → Ends R (Whatever {A = ExternCall}) (find_call externs x)
+pub find_ends : {R : Refusal → Type 0} (externs : List ℕ) (x : Instruction) → R extern_not_found → Ends R (Whatever {A = ExternCall}) (find_call externs x)
 unfolding find_call
 find_ends externs x z = bind (found_ends z (lookup_extern externs x.first_name)) (λ row u. fine tt)
 

@@ -1,25 +1,17 @@
 -- The writes of a CALL keep the declared kinds and lie in regions of its write set. Assumes nothing.
-use Prim.Native.Nat.{ℕ, zero, suc, ◌+◌, ◌<◌, ◌≤◌}
-use mathlib.Core.Bool.{Bool, true, false, not}
-use mathlib.Core.List.{List}
-use mathlib.Core.Path.{◌≡◌, refl}
-use native.Mathlib.Omega.{arith}
-use lib.Dec.{eqb, ltb}
-use borrow.Author.Tests.{ltb-true, eqb-true, eqb-false, not-true}
+use Rattle.std.proofs.Common.{ℕ, zero, suc, ◌+◌, ◌<◌, ◌≤◌, Bool, true, false, not, List, ◌≡◌, refl, arith, eqb, ltb, ltb-true, eqb-true, Some, Result, Ok, Err}
+use Rattle.call_argument.specs.declared.error.CallArgumentError.{CallArgumentError}
+use borrow.Author.Tests.{eqb-false, not-true}
 use Rattle.words.specs.Kind.{fits_kind}
-use Rattle.tables.specs.Outcome.{ok}
 use Rattle.tables.specs.Tables.{Tables}
 use Rattle.tables.specs.Rows.{region_kind, region_length}
 use Rattle.tables.specs.Lookup.{lookup_region}
-use Rattle.tables.specs.declared.lookup.Found.TheVariants as L
 use Rattle.tables.specs.declared.rows.Instruction.{Instruction}
 use Rattle.tables.proofs.FirstLaws.{every-row}
 use Rattle.tables.proofs.LookupLaws.{region-row, region-named}
 use Rattle.tables.proofs.Passed.{both}
 use Rattle.extern_call.specs.Call.{resolution_at}
 use Rattle.extern_call.specs.declared.call.ExternCall.{ExternCall}
-use Rattle.extern_call.specs.declared.call.CallResolution.{CallResolution}
-use Rattle.extern_call.specs.declared.call.CallResolution.TheVariants as C
 use Rattle.call_argument.specs.declared.resolved.ResolvedCallArgument.{ResolvedCallArgument}
 use Rattle.call_argument.specs.declared.resolved.ResolvedCallArgument.TheVariants.{Vector, MemoryReference, Immediate}
 use Rattle.extern_call.proofs.ResolvedLaws.{resolved_name, resolved_mutable, resolved_facts}
@@ -66,7 +58,7 @@ row_fits mutable length kind y e =
 -- the cell at an index of a declared region, of that kind
 record Aimed (regions : List ℕ) (name kind i : ℕ) : Type 0 where
   region : ℕ
-  named : lookup_region regions name ≡ L.At region
+  named : lookup_region regions name ≡ Some region
   of_kind : region_kind regions region ≡ kind
   index : i < region_length regions region
 
@@ -92,31 +84,31 @@ module _ (t : Tables) (x : Instruction) (fit : RegionsFit t.regions) where
       })
 
   module _ {call : ExternCall} (v : Resolvable t.regions t.externs t.parameters t.arguments x call) where
-    abbrev resolution : ℕ → CallResolution
+    abbrev resolution : ℕ → Result ResolvedCallArgument CallArgumentError
     resolution i = resolution_at t.regions t.parameters t.arguments call i
 
     -- the name of a mutable argument
-    written : (i : ℕ) (r : ResolvedCallArgument) → i < call.argument_count → resolution i ≡ C.Resolved r → (resolved_mutable r ≡ 0 → ⊥)
+    written : (i : ℕ) (r : ResolvedCallArgument) → i < call.argument_count → resolution i ≡ Ok r → (resolved_mutable r ≡ 0 → ⊥)
         → has (resolved_name r) (write_set t x) ≡ true
     unfolding write_set
     written i r h e m = rw v.found (mutable_written t.regions t.parameters t.arguments call i r (below-paired call i h (rw v.count at h)) e m)
 
     -- a row of the reply that fits argument i
-    hit_good : (i : ℕ) (y : Reply) (r : CallResolution) → i < call.argument_count → resolution i ≡ r
+    hit_good : (i : ℕ) (y : Reply) (r : Result ResolvedCallArgument CallArgumentError) → i < call.argument_count → resolution i ≡ r
         → M.of_resolved (M.scalar_fits t.regions) true r ≡ true → M.of_resolved (M.hits y) false r ≡ true
         → GoodWrite t x (write (M.of_resolved (M.cell_hit t.regions y.offset) 0 r) y.kind y.word)
-    hit_good i y (C.Resolved (Vector name a mutable)) h e s f =
+    hit_good i y (Ok (Vector name a mutable)) h e s f =
         let d = (resolved_facts t.regions t.parameters t.arguments call i (Vector name a mutable) e).declares in
         let b = row_fits mutable a.length a.kind y f in
         aimed_good y (record { region = d.region; named = d.named; of_kind = d.of_kind; index = rw d.of_length b.inside }) b.kind_is b.word_fits
         (written i (Vector name a mutable) h e b.mutable_is)
-    hit_good i y (C.Resolved (MemoryReference name index kind mutable)) h e s f =
+    hit_good i y (Ok (MemoryReference name index kind mutable)) h e s f =
         let d = (resolved_facts t.regions t.parameters t.arguments call i (MemoryReference name index kind mutable) e).declares in
         let b = row_fits mutable 1 kind y f in
         aimed_good y (record { region = d.region; named = d.named; of_kind = d.of_kind; index = index_below t.regions d.region index (rw d.named at s) })
         b.kind_is b.word_fits (written i (MemoryReference name index kind mutable) h e b.mutable_is)
-    hit_good i y (C.Resolved (Immediate real imaginary kind)) h e s f = let z : ◌≡◌ {A = ℕ} 0 1 = cc in absurd (omega arith)
-    hit_good i y (C.Failed error) h e s f = let z : ◌≡◌ {A = ℕ} 0 1 = cc in absurd (omega arith)
+    hit_good i y (Ok (Immediate real imaginary kind)) h e s f = let z : ◌≡◌ {A = ℕ} 0 1 = cc in absurd (omega arith)
+    hit_good i y (Err error) h e s f = let z : ◌≡◌ {A = ℕ} 0 1 = cc in absurd (omega arith)
 
     -- ---- the writes of a CALL whose reply was judged
 
@@ -149,7 +141,7 @@ module _ (t : Tables) (x : Instruction) (fit : RegionsFit t.regions) where
           let f = (both (M.reply_length_fits reply) _ j.fits).1 in
           rows-good 0 (M.reply_rows reply) (λ i l. row-good j.scalars i (every-row fits_at (M.reply_rows reply) f i (omega arith)))
 
-  pub call-good : (reply : List ℕ) (ws : List Write) → M.call_outcome t.regions t.externs t.parameters t.arguments x reply ≡ ok ws
+  pub call-good : (reply : List ℕ) (ws : List Write) → M.call_outcome t.regions t.externs t.parameters t.arguments x reply ≡ Ok ws
       → Each (GoodWrite t x) ws
   unfolding M.call_outcome
   call-good reply ws e =

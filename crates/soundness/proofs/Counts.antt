@@ -1,15 +1,8 @@
 -- How many changes a row makes at most, whatever the cells hold: by its family alone. Assumes nothing.
-use Prim.Native.Nat.{ℕ, ◌%◌, ◌≤◌}
-use mathlib.Core.Bool.{Bool, true, false, not, cond}
-use mathlib.Core.List.{List, [], ◌∷◌}
-use mathlib.Core.Path.{◌≡◌, refl, ap, sym, ◌∙◌}
-use native.Mathlib.Omega.{arith}
-use lib.Dec.{eqb}
-use lib.ListN.{length}
-use borrow.Author.Tests.{leb-true}
+use Rattle.std.proofs.Common.{ℕ, ◌%◌, ◌≤◌, Bool, true, false, not, cond, List, [], ◌∷◌, ◌≡◌, refl, ap, sym, ◌∙◌, arith, eqb, length, leb-true, Ok}
 use Rattle.tables.specs.Cases.{case_of}
 use Rattle.tables.specs.Family as family
-use Rattle.tables.specs.Outcome.{Outcome, ok}
+use Rattle.tables.specs.Outcome.{Outcome}
 use Rattle.tables.specs.Tables.{Tables}
 use Rattle.tables.specs.declared.rows.Instruction.{Instruction}
 use Rattle.tables.proofs.Cases.{by_key, past_keys}
@@ -53,7 +46,7 @@ module _ (t : Tables) (x : Instruction) (reply : List ℕ) where
   called = call_outcome t.regions t.externs t.parameters t.arguments x reply
 
   -- "a reply is up to 64 rows"
-  pub call-count : {ws : List Write} → called ≡ ok ws → (length ws ≡ reply_rows reply) × (reply_rows reply ≤ reply_limit)
+  pub call-count : {ws : List Write} → called ≡ Ok ws → (length ws ≡ reply_rows reply) × (reply_rows reply ≤ reply_limit)
   unfolding call_outcome reply_fits reply_length_fits
   call-count {ws} e =
       let b = bound (call_judged t.regions t.externs t.parameters t.arguments x reply) _ ws e in
@@ -64,9 +57,9 @@ module _ (t : Tables) (x : Instruction) (reply : List ℕ) where
         leb-true (reply_rows reply) reply_limit (both (eqb (length reply % reply_width) 0) _ f).1,
       )
 
-  module _ {ws : List Write} (laid : Laid t.regions) (cells : List ℕ) (e : outcome_of t cells x reply ≡ ok ws) where
+  module _ {ws : List Write} (laid : Laid t.regions) (cells : List ℕ) (e : outcome_of t cells x reply ≡ Ok ws) where
     -- behind 9 and 20
-    behind : cond (is_call x) called (plain_outcome t.regions cells x reply) ≡ ok ws
+    behind : cond (is_call x) called (plain_outcome t.regions cells x reply) ≡ Ok ws
     unfolding outcome_of
     behind = (passed (labels_fit t.instructions) _ _ _ (passed (not (is_other x)) _ _ _ e).1).1
 
@@ -78,6 +71,6 @@ module _ (t : Tables) (x : Instruction) (reply : List ℕ) where
     unfolding most_changes changes_of case_of
     outcome_most = at (is_call x) refl behind
       where
-        at : (c : Bool) → is_call x ≡ c → cond c called (plain_outcome t.regions cells x reply) ≡ ok ws → length ws ≤ cond c reply_limit (changes_of x.family)
+        at : (c : Bool) → is_call x ≡ c → cond c called (plain_outcome t.regions cells x reply) ≡ Ok ws → length ws ≤ cond c reply_limit (changes_of x.family)
         at true q h = let (n, l) = call-count h in omega arith
         at false q h = let n : length ws ≡ changes_of x.family = plain_changes q in omega arith

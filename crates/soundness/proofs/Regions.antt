@@ -1,18 +1,13 @@
 -- Where regions and cells lie: the cell at an index of a region has its kind; a declared name has a region of the kind
 -- that is the name's code. Assumes nothing.
-use Prim.Native.Nat.{ℕ, zero, suc, ◌+◌, ◌<◌, ◌≤◌}
-use mathlib.Core.Bool.{Bool, true, false, cond, false≢true}
-use mathlib.Core.List.{List}
-use mathlib.Core.Path.{◌≡◌, refl, sym, ◌∙◌}
-use native.Mathlib.Omega.{arith}
-use lib.Dec.{ltb}
+use Rattle.std.proofs.Common.{ℕ, zero, suc, ◌<◌, ◌≤◌, Bool, true, false, cond, List, ◌≡◌, refl, sym, ◌∙◌, arith, ltb, Option, Some, None}
+use mathlib.Core.Bool.{false≢true}
+use Rattle.tables.specs.declared.refusal.Refusal.{Refusal}
 use Rattle.tables.specs.Refusal.{index_past_length}
 use Rattle.tables.specs.Rows.{region_rows, region_kind, region_length}
 use Rattle.tables.specs.Sum.{sum_to}
 use Rattle.tables.specs.Cells.{first_cell, cell_count}
 use Rattle.tables.specs.Lookup.{lookup_region}
-use Rattle.tables.specs.declared.lookup.Found.{Found}
-use Rattle.tables.specs.declared.lookup.Found.TheVariants.{At, Nothing}
 use Rattle.tables.proofs.LookupLaws.{region-row}
 use Rattle.type_rules.specs.Codes.{code_of}
 use Rattle.type_rules.proofs.CodeLaws.{code_kind, code_none}
@@ -76,7 +71,7 @@ pub record RegionsFit (regions : List ℕ) : Type 0 where
   pub kind : (r : ℕ) → r < region_rows regions → region_kind regions r ≤ 3
 
 module _ {regions : List ℕ} (fit : RegionsFit regions) (name : ℕ) where
-  pub region-at : (r : ℕ) → lookup_region regions name ≡ At r → Region regions (code_of regions name) r
+  pub region-at : (r : ℕ) → lookup_region regions name ≡ Some r → Region regions (code_of regions name) r
   region-at r e =
       let l : r < region_rows regions = region-row regions name r e in
       let h : region_kind regions r ≤ 3 = fit.kind r l in
@@ -84,17 +79,17 @@ module _ {regions : List ℕ} (fit : RegionsFit regions) (name : ℕ) where
       record { laid = fit.laid; there = l; is = sym q; small = omega arith }
 
   -- a name that is used, and declared
-  pub named_ends : {R : ℕ → Type 0} (t : Bool) → (t ≡ true → code_of regions name < 8)
+  pub named_ends : {R : Refusal → Type 0} (t : Bool) → (t ≡ true → code_of regions name < 8)
       → Ends R (λ r. t ≡ true → Region regions (code_of regions name) r) (named_of regions t name)
   unfolding named_of
   named_ends {R} true d = go (lookup_region regions name) refl
     where
-      go : (f : Found) → lookup_region regions name ≡ f → Ends R (λ r. true ≡ true → Region regions (code_of regions name) r) (found_region f)
-      go (At r) e = fine (λ t. region-at r e)
-      go Nothing e = absurd (omega (arith, d refl, code_none regions name refl e))
+      go : (f : Option ℕ) → lookup_region regions name ≡ f → Ends R (λ r. true ≡ true → Region regions (code_of regions name) r) (found_region f)
+      go (Some r) e = fine (λ t. region-at r e)
+      go None e = absurd (omega (arith, d refl, code_none regions name refl e))
   named_ends false d = fine {a = 0} (λ e. absurd (false≢true e))
 
-module _ {R : ℕ → Type 0} {regions : List ℕ} {k r : ℕ} where
+module _ {R : Refusal → Type 0} {regions : List ℕ} {k r : ℕ} where
   -- an index that may be past the length
   pub indexed_ends : (i : ℕ) → Region regions k r → R index_past_length → Ends R (λ c. Cell regions k c) (indexed_of regions r i)
   unfolding indexed_of

@@ -1,28 +1,14 @@
 -- Each operator's result is a word of its kind, or the refusal is 15, 16 or 23. Assumes nothing.
-use Prim.Native.Nat.{ℕ, ◌^◌, ◌<◌}
-use mathlib.Core.Bool.{Bool, true, false, not, cond, ◌||◌}
-use mathlib.Core.List.{[], ◌∷◌}
-use mathlib.Core.Path.{◌≡◌, refl}
-use native.Mathlib.Omega.{arith}
-use lib.Dec.{eqb, ltb}
-use lib.Pow.{pow_pos}
-use borrow.Author.Tests.{eqb-true, ltb-true}
+use Rattle.std.proofs.Common.{ℕ, ◌^◌, ◌<◌, Bool, true, false, not, cond, ◌||◌, [], ◌∷◌, ◌≡◌, refl, arith, eqb, ltb, pow_pos, eqb-true, ltb-true, Option, Some, None, Ok}
 use Rattle.words.specs.Kind.{bit, real, width_of, fits_kind}
 use Rattle.words.specs.Fits as W
 use Rattle.reals.specs.Fits as R
 use Rattle.words.specs.WidthLaws.{not-below}
 use Rattle.words.specs.Integer.{integer_divide, integer_negate}
 use Rattle.reals.specs.Real.{real_negate}
-use Rattle.words.specs.Width.{not_at, shift_left, shift_right, shift_right_arithmetic}
-use Rattle.words.specs.declared.integer.Quotient.{Quotient}
-use Rattle.words.specs.declared.integer.Quotient.TheVariants as Q
-use Rattle.words.specs.declared.width.Shifted.{Shifted}
-use Rattle.words.specs.declared.width.Shifted.TheVariants as S
+use Rattle.words.specs.Width.{shift_left, shift_right, shift_right_arithmetic}
 use Rattle.words.specs.Convert.{real_to_integer}
-use Rattle.words.specs.declared.convert.Converted.{Converted}
-use Rattle.words.specs.declared.convert.Converted.TheVariants as C
 use Rattle.tables.specs.Refusal.{zero_divisor, negative_shift_count, outside_integer}
-use Rattle.tables.specs.Outcome.{ok}
 use Rattle.tables.specs.Cases.{case_of}
 use Rattle.tables.specs.Operator as operator
 use Rattle.tables.proofs.Cases.{by_key, past_keys}
@@ -34,9 +20,9 @@ use Rattle.machine.proofs.Ends.{Ends, Ruled, fine, turned, either}
 
 -- ---- arithmetic
 
-quotient_ends : (a b : ℕ) (q : Quotient) → integer_divide a b ≡ q → Ends Ruled (λ w. w < 2 ^ 64) (quotient_outcome q)
-quotient_ends a b (Q.Word r) e = fine (W.integer_divide-below a b r e)
-quotient_ends a b Q.ZeroDivisor e = turned {n = zero_divisor} refl
+quotient_ends : (a b : ℕ) (q : Option ℕ) → integer_divide a b ≡ q → Ends Ruled (λ w. w < 2 ^ 64) (quotient_outcome q)
+quotient_ends a b (Some r) e = fine (W.integer_divide-below a b r e)
+quotient_ends a b None e = turned {n = zero_divisor} refl
 
 integer_ends : (which a b : ℕ) → Ends Ruled (λ w. w < 2 ^ 64) (integer_result which a b)
 unfolding integer_result case_of
@@ -50,7 +36,7 @@ integer_ends which a b =
     ∷ []
     )
     which
-    (λ past. rw (past_keys past (integer_results a b) (ok 0) refl) (fine (pow_pos 64)))
+    (λ past. rw (past_keys past (integer_results a b) (Ok 0) refl) (fine (pow_pos 64)))
 
 real-below : (which a b : ℕ) → real_result which a b < 2 ^ 64
 unfolding real_result case_of
@@ -84,9 +70,9 @@ comparison-below which kind a b = at (comparison_test which kind a b)
 -- ---- binary logic
 
 module _ (kind v s : ℕ) (f : fits_kind kind v ≡ true) where
-  shifted_ends : (answer : Shifted) → ((r : ℕ) → answer ≡ S.Word r → fits_kind kind r ≡ true) → Ends Ruled (λ w. fits_kind kind w ≡ true) (shifted_outcome answer)
-  shifted_ends (S.Word r) h = fine (h r refl)
-  shifted_ends S.NegativeCount h = turned {n = negative_shift_count} refl
+  shifted_ends : (answer : Option ℕ) → ((r : ℕ) → answer ≡ Some r → fits_kind kind r ≡ true) → Ends Ruled (λ w. fits_kind kind w ≡ true) (shifted_outcome answer)
+  shifted_ends (Some r) h = fine (h r refl)
+  shifted_ends None h = turned {n = negative_shift_count} refl
 
   pub logic_ends : (which : ℕ) → Ends Ruled (λ w. fits_kind kind w ≡ true) (logic_result which kind v s)
   unfolding logic_result case_of fits_kind
@@ -104,7 +90,7 @@ module _ (kind v s : ℕ) (f : fits_kind kind v ≡ true) where
       which
       (λ past.
       let small = ltb-true kind 4 (both (ltb kind 4) _ f).0 in
-      rw (past_keys past (logic_results (width_of kind) v s) (ok 0) refl) (fine (W.fits_of kind 0 small (pow_pos (width_of kind)))))
+      rw (past_keys past (logic_results (width_of kind) v s) (Ok 0) refl) (fine (W.fits_of kind 0 small (pow_pos (width_of kind)))))
 
 -- ---- unary
 
@@ -131,9 +117,9 @@ unary-below which kind v =
 
 -- ---- CONVERT
 
-converted_ends : (a : ℕ) (answer : Converted) → real_to_integer a ≡ answer → Ends Ruled (λ w. w < 2 ^ 64) (converted_outcome answer)
-converted_ends a (C.Word r) e = fine (real_to_integer-below a r e)
-converted_ends a C.Outside e = turned {n = outside_integer} refl
+converted_ends : (a : ℕ) (answer : Option ℕ) → real_to_integer a ≡ answer → Ends Ruled (λ w. w < 2 ^ 64) (converted_outcome answer)
+converted_ends a (Some r) e = fine (real_to_integer-below a r e)
+converted_ends a None e = turned {n = outside_integer} refl
 
 pub convert_ends : (source word : ℕ) → Ends Ruled (λ w. w < 2 ^ 64) (convert_result source word)
 unfolding convert_result

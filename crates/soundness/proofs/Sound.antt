@@ -1,17 +1,11 @@
 -- The theorem: on cells of the declared kinds, no row of accepted tables is refused with 18, and its writes are good. Under the premises of `Checked`; no axioms.
-use Prim.Native.Nat.{ℕ, ◌+◌, ◌*◌, ◌<◌}
-use mathlib.Core.Bool.{Bool, true, false, not, cond}
-use mathlib.Core.List.{List}
-use mathlib.Core.Path.{◌≡◌, refl, ap₂, ◌∙◌}
-use native.Mathlib.Omega.{arith}
-use lib.Dec.{ltb}
-use borrow.Author.Tests.{ltb-true}
-use Rattle.tables.specs.Refusal.{journal_full, no_rule, other_instruction, unfit_labels}
-use Rattle.tables.specs.Outcome.{Outcome, ok, refuse}
+use Rattle.std.proofs.Common.{ℕ, ◌+◌, ◌*◌, ◌<◌, Bool, true, false, not, cond, List, ◌≡◌, refl, ap₂, ◌∙◌, arith, ltb, ltb-true, Some, Ok, Err}
+use Rattle.tables.specs.Refusal.{refusal_number, journal_full, no_rule, other_instruction, unfit_labels}
+use Rattle.tables.specs.declared.refusal.Refusal.{Refusal}
+use Rattle.tables.specs.Outcome.{Outcome}
 use Rattle.tables.specs.Tables.{Tables}
 use Rattle.tables.specs.Lookup.{lookup_region}
 use Rattle.tables.specs.Rows.{region_kind, instruction_rows, instruction_at}
-use Rattle.tables.specs.declared.lookup.Found.TheVariants.{At}
 use Rattle.word_rules.specs.Instruction.{operators_of, form_allowed, instruction_allowed}
 use Rattle.tables.specs.declared.rows.Instruction.{Instruction}
 use Rattle.loader.proofs.Loaded.{Loaded, loaded, region-kind, instruction_allowed_lem}
@@ -50,7 +44,7 @@ module _ (t : Tables) (checked : Checked t) where
   fit = record { laid = checked.laid; kind = region-kind tables }
 
   -- a declared name's code is its region's kind
-  own_code : (name : ℕ) {r : ℕ} → lookup_region t.regions name ≡ At r → code_of t.regions name ≡ region_kind t.regions r
+  own_code : (name : ℕ) {r : ℕ} → lookup_region t.regions name ≡ Some r → code_of t.regions name ≡ region_kind t.regions r
   own_code name {r} e = let small = region-kind tables r (region-row t.regions name r e) in code_kind t.regions name e (omega arith)
 
   -- what was looked at of a row
@@ -97,7 +91,7 @@ module _ (t : Tables) (checked : Checked t) where
     plain_ends = plain_sound typed x (accepted row h) reply
 
     -- nor are 9 and 20 among these
-    row_unmet : (n : ℕ) → among n unmet ≡ true → outcome_at t cells row reply ≡ refuse n → ⊥
+    row_unmet : (n : Refusal) → among (refusal_number n) unmet ≡ true → outcome_at t cells row reply ≡ Err n → ⊥
     unfolding outcome_at outcome_of
     row_unmet n m e =
         never_met n m
@@ -108,11 +102,11 @@ module _ (t : Tables) (checked : Checked t) where
         ends true = call_ends t.regions t.externs t.parameters t.arguments x reply
         ends false = weaken (λ ws k. tt) plain_ends
 
-    row-good : (ws : List Write) → outcome_at t cells row reply ≡ ok ws → Each (GoodWrite t x) ws
+    row-good : (ws : List Write) → outcome_at t cells row reply ≡ Ok ws → Each (GoodWrite t x) ws
     unfolding outcome_at outcome_of
     row-good ws e = at (is_call x) refl (passed (labels_fit t.instructions) _ _ _ (passed (not (is_other x)) _ _ _ e).1).1
       where
-        at : (c : Bool) → is_call x ≡ c → cond c called plain ≡ ok ws → Each (GoodWrite t x) ws
+        at : (c : Bool) → is_call x ≡ c → cond c called plain ≡ Ok ws → Each (GoodWrite t x) ws
         at true q e = call-good t x fit reply ws e
         at false q e = each_map (kept_good x q) (gives ws plain_ends e)
 

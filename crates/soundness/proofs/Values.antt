@@ -1,18 +1,13 @@
 -- Cells of the declared kinds, as they are read and written: no 18, and what is put into a cell keeps its kind. Assumes nothing.
-use Prim.Native.Nat.{ℕ, ◌^◌, ◌<◌}
-use mathlib.Core.Bool.{Bool, true, false, cond}
-use mathlib.Core.List.{List}
-use mathlib.Core.Path.{◌≡◌, refl, sym, ◌∙◌}
-use native.Mathlib.Omega.{arith}
-use lib.Dec.{eqb, ltb}
-use borrow.Author.Tests.{eqb-true, eqb-false, eq-eqb}
+use Rattle.std.proofs.Common.{ℕ, ◌^◌, ◌<◌, Bool, true, false, cond, List, ◌≡◌, refl, sym, ◌∙◌, arith, eqb, ltb, eqb-true, eq-eqb, Ok, Err}
+use borrow.Author.Tests.{eqb-false}
 use Rattle.words.specs.Kind.{integer_literal, real_literal, width_of, fits_kind}
 use Rattle.words.specs.Literal.{literal_fits}
 use Rattle.words.specs.Fits.{fits_of, fits_below}
 use Rattle.words.proofs.Literal.{literal-fits}
 use Rattle.tables.specs.Cases.{case_of}
 use Rattle.tables.specs.Refusal.{no_rule, unfit_literal}
-use Rattle.tables.specs.Outcome.{Outcome, ok, refuse, ◌>>◌, need}
+use Rattle.tables.specs.Outcome.{Outcome, ◌>>◌, need}
 use Rattle.tables.specs.Cells.{cell_count}
 use Rattle.tables.specs.declared.rows.Instruction.{Instruction}
 use Rattle.type_rules.specs.Codes.{code_of, operand_code}
@@ -73,8 +68,8 @@ module _ {regions cells : List ℕ} (typed : Typed regions cells) where
     where
       at : (a b r : Bool) → eqb x.source_form 0 ≡ a → eqb x.source_form 1 ≡ b → eqb x.source_form 2 ≡ r
           → Ends Ruled (Holds (cond a integer_literal (cond b real_literal (code_of regions x.source_first))))
-          (cond a (ok (record { kind = integer_literal; word = x.source_first })) (cond b (ok (record { kind = real_literal; word = x.source_first }))
-          (cond r (read_of cells c) (refuse no_rule))))
+          (cond a (Ok (record { kind = integer_literal; word = x.source_first })) (cond b (Ok (record { kind = real_literal; word = x.source_first }))
+          (cond r (read_of cells c) (Err no_rule))))
       at true b r ea eb er = fine (record { kind_is = refl; below = w })
       at false true r ea eb er = fine (record { kind_is = refl; below = w })
       at false false true ea eb er = read_ends (t er)
@@ -87,8 +82,8 @@ module _ {regions cells : List ℕ} (typed : Typed regions cells) where
   put_ends {k} {s} {c} v t h e = rw (h.kind_is, cell-kind t) (at (eqb s integer_literal) (eqb s real_literal) refl refl e)
     where
       at : (a b : Bool) → eqb s integer_literal ≡ a → eqb s real_literal ≡ b → cond a (ltb k 3) (cond b (eqb k 3) (eqb k s)) ≡ true
-          → Keeps regions (cond a (need (ltb k 3) no_rule >> (need (literal_fits k v.word) unfit_literal >> ok (F.one c k v.word)))
-          (cond b (need (eqb k 3) no_rule >> ok (F.one c 3 v.word)) (ok (F.one c s v.word))))
+          → Keeps regions (cond a (need (ltb k 3) no_rule >> (need (literal_fits k v.word) unfit_literal >> Ok (F.one c k v.word)))
+          (cond b (need (eqb k 3) no_rule >> Ok (F.one c 3 v.word)) (Ok (F.one c s v.word))))
       at true b ea eb e =
           let l : v.word < 2 ^ width_of 4 = rw (eqb-true s integer_literal ea) at h.below in
           ruled e (tested unfit_literal (literal_fits k v.word) refl (λ f. fine (single (kept t refl (sym (literal-fits k v.word t.small l) ∙ f)))))

@@ -1,9 +1,5 @@
 -- The cells that open leaves hold their declared kinds. Assumes nothing.
-use Prim.Native.Nat.{ℕ, ◌<◌, ◌≤◌}
-use mathlib.Core.List.{List}
-use mathlib.Core.Path.{◌≡◌, refl}
-use native.Mathlib.Omega.{arith}
-use lib.Pow.{pow_pos}
+use Rattle.std.proofs.Common.{ℕ, ◌<◌, ◌≤◌, List, refl, arith, pow_pos}
 use Rattle.words.specs.Kind.{width_of}
 use Rattle.words.specs.Fits.{fits_of}
 use Rattle.tables.specs.Rows.{region_kind}

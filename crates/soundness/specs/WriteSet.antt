@@ -1,6 +1,6 @@
 -- A CALL's write set, and which cells the regions in it have. Demand 3 (sequence/specs/Claim.antt): "a CALL changed only cells of regions in its write set".
-use Rattle.std.specs.Prelude.{ℕ, ◌+◌, ◌<◌, ◌≤◌, true, List, [], ◌≡◌}
-use Rattle.tables.specs.Outcome.{Outcome, ok, refuse}
+use Rattle.std.specs.Prelude.{ℕ, ◌+◌, ◌<◌, ◌≤◌, true, List, [], ◌≡◌, Ok, Err}
+use Rattle.tables.specs.Outcome.{Outcome}
 use Rattle.tables.specs.Tables.{Tables}
 use Rattle.tables.specs.Rows.{region_rows, region_name, region_length}
 use Rattle.tables.specs.Cells.{origin}
@@ -20,8 +20,8 @@ pub record HasCell (regions : List ℕ) (r c : ℕ) : Type 0 where
 
 -- the names that `access` lists as written (soundness/proofs/Access.antt: they are what the public call leaves in its list)
 abbrev pub written_names : Tables → Outcome ExternCall → List ℕ
-written_names t (ok call) = access_of t.parameters t.arguments call Write
-written_names t (refuse number) = []
+written_names t (Ok call) = access_of t.parameters t.arguments call Write
+written_names t (Err number) = []
 
 unfoldable pub write_set : Tables → Instruction → List ℕ
 write_set t x = written_names t (find_call t.externs x)

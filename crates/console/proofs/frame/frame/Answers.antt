@@ -1,6 +1,5 @@
-use Rattle.std.proofs.Common.{rules}
+use Rattle.std.proofs.Common.{ap, ◌∙◌, rules}
 use Rattle.tables.proofs.Passed.{seen}
-use mathlib.Core.Path.{ap, ◌∙◌}
 use Rattle.loader.proofs.Loaded.{loaded_row, chosen}
 use Rattle.console.specs.Frame.{frame_answer, frame_tables}
 use Rattle.console.proofs.Facts.{frame_range}

@@ -1,6 +1,5 @@
-use Rattle.std.proofs.Common.{Ok, rules}
+use Rattle.std.proofs.Common.{ap, Ok, rules}
 use Rattle.tables.proofs.Passed.{seen}
-use mathlib.Core.Path.{ap}
 use Rattle.loader.proofs.Loaded.{loaded_nodes}
 use Rattle.console.specs.References.{references_table}
 use Rattle.console.proofs.references.memory_references.Goals as goal

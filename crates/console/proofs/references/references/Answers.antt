@@ -1,6 +1,5 @@
-use Rattle.std.proofs.Common.{rules}
+use Rattle.std.proofs.Common.{ap, rules}
 use Rattle.tables.proofs.Passed.{seen}
-use mathlib.Core.Path.{ap}
 use Rattle.loader.proofs.Loaded.{loaded_nodes}
 use Rattle.console.specs.References.{handed_answer, references_list}
 use Rattle.console.proofs.references.references.Goals as goal

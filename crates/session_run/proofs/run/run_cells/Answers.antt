@@ -1,3 +1,4 @@
+use Rattle.std.proofs.Common.{sym, ◌∙◌}
 use Rattle.tables.specs.Outcome.{need}
 use Rattle.session.proofs.AnswerLaws.{look-passed, look-failed}
 use Rattle.session_run.specs.Turn.{run_cells}
@@ -5,8 +6,8 @@ use Rattle.session_run.proofs.run.run_cells.Goals as goal
 
 pub returns-then-not-position_fits : goal.returns-then-not-position_fits
 unfolding run_cells need
-returns-then-not-position_fits c = λ nodes. rw (look-failed c.position_fits.ensures c.if-not-position_fits.true-raw)
+returns-then-not-position_fits c = λ nodes. rw (sym c.position_fits.ensures ∙ c.if-not-position_fits.true)
 
 pub returns : goal.returns
 unfolding run_cells need
-returns c = λ nodes. rw (look-passed c.position_fits.ensures c.if-not-position_fits.false-raw) (c.run_rows.ensures nodes)
+returns c = λ nodes. rw (sym c.position_fits.ensures ∙ c.if-not-position_fits.false) (c.run_rows.ensures nodes)

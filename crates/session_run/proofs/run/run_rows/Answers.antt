@@ -1,4 +1,4 @@
-use Rattle.std.proofs.Common.{ℕ, ◌+◌, ◌-◌, ◌≡◌, sym, ap, ◌∙◌, arith}
+use Rattle.std.proofs.Common.{◌+◌, ◌-◌, refl, sym, ap, ◌∙◌}
 use Rattle.tables.specs.Tables.{Tables, tables_of}
 use Rattle.session.specs.declared.answer.Stop.TheVariants.{Allowance}
 use Rattle.session_run.specs.Run.{Rest, stopped, run_by}

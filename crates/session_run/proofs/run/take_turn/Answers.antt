@@ -1,5 +1,4 @@
-use mathlib.Core.Path.{sym, ap, ◌∙◌}
-use borrow.Author.Tests.{eq-eqb, ne_eqb}
+use Rattle.std.proofs.Common.{sym, ap, ◌∙◌, eq-eqb, ne_eqb}
 use Rattle.tables.specs.declared.rows.Instruction.{Instruction}
 use Rattle.machine.specs.Outcome.{is_call}
 use Rattle.session_run.proofs.RunLaws.{turn_end, turn-call, turn_step}
