@@ -1,9 +1,8 @@
 -- What back's looks have seen where they refuse nothing, and back in a memory whose first words are the cells. Assumes nothing.
-use Rattle.session.specs.Answer.{StepAnswer}
-use Rattle.tables.proofs.Passed.{seen}
-use Rattle.std.proofs.Common.{ℕ, ◌*◌, ◌/◌, ◌<◌, ◌≤◌, true, ltb, List, ◌++◌, length, take, drop, Result, Ok, ◌≡◌, refl, arith, Err}
+use Rattle.std.proofs.Common.{ℕ, ◌*◌, ◌/◌, ◌<◌, ◌≤◌, true, List, ◌++◌, ◌≡◌, refl, arith, length, take, drop, ltb, Ok, Err}
 use lib.Seq.{length-take-le}
 use borrow.Author.Tests.{ltb-true}
+use Rattle.tables.specs.declared.refusal.Refusal.{Refusal}
 use Rattle.tables.specs.Outcome.{Outcome, ◌>>=◌}
 use Rattle.tables.specs.Tables.{Tables}
 use Rattle.tables.specs.Rows.{instruction_rows}
@@ -14,6 +13,7 @@ use Rattle.journal.specs.Cells.{cell_width}
 use Rattle.journal.specs.Entries.{entries_at}
 use Rattle.journal.specs.Position.{retreated}
 use Rattle.journal.specs.Restore.{present, undone}
+use Rattle.session.specs.Answer.{StepAnswer}
 use Rattle.session.specs.Prepare.{entries_of, prepared_of}
 use Rattle.session.specs.Position.{position_fits}
 use Rattle.session.proofs.Prepared.{prepared}
@@ -47,11 +47,6 @@ takes_back instructions cells journal p {changes} e =
       readable = rw q at r;
     }
 
--- the same, of the answer of the code
-pub told_changes : (instructions : List ℕ) (cells : ℕ) (journal : List ℕ) (p : Position) {r : Result ℕ ℕ} {changes : ℕ}
-    → r ≡ take_back_look instructions cells journal p → r ≡ Ok changes → TakesBack cells journal p changes
-told_changes instructions cells journal p e f = takes_back instructions cells journal p (seen e f)
-
 -- what is left of the cells
 pub took_back : (cells journal : List ℕ) (p : Position) {o : Outcome ℕ} {changes row : ℕ} {q : Position} {cells' : List ℕ} → o ≡ Ok changes
     → row ≡ last_row journal p → q ≡ retreated p row changes → cells' ≡ undone journal (first_entry p changes) changes cells → backed (Ok q) cells' ≡ taken_back cells journal p o
@@ -67,7 +62,7 @@ module _ (t : Tables) (memory journal : List ℕ) (p : Position) where
   back_look_lem = placed_then t (length memory) (length journal) p (λ n. journal_look t.instructions n journal p)
 
   -- 1, 2, 3, 10 or 4
-  pub back_unprepared : {number : ℕ} → prepared_of t (length memory) (length journal) ≡ Err number → backed (Err (number, p)) memory ≡ back_tables t memory journal p
+  pub back_unprepared : {number : Refusal} → prepared_of t (length memory) (length journal) ≡ Err number → backed (Err (number, p)) memory ≡ back_tables t memory journal p
   unfolding back_tables taken_back ◌>>=◌
   back_unprepared {number} e = rw (back_look_lem, e) (all_kept (cell_width * cell_count t.regions) memory (λ cells. taken_back cells journal p (Err number)) refl)
 

@@ -1,5 +1,5 @@
 -- How back's looks answer in the code, behind 1, 2, 3, 10 and 4.
-use Rattle.std.specs.Prelude.{ℕ, List, length, Result, Ok, Err}
+use Rattle.std.specs.Prelude.{ℕ, List, length}
 use Rattle.tables.specs.Refusal.{foreign_position}
 use Rattle.tables.specs.Outcome.{Outcome, ◌>>◌, need}
 use Rattle.journal.specs.declared.position.Position.{Position}

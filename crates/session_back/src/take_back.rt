@@ -13,8 +13,12 @@ use session::position::position_fits;
 use tables::refusal::Refusal;
 use tables::rows::INSTRUCTION_WIDTH;
 
-// The change count of the last step, or a refusal by its number.
-fn look_back(instructions: &[u64], cells: usize, journal: &[u64], p: Position) -> Result<usize, u64>
+fn look_back(
+    instructions: &[u64],
+    cells: usize,
+    journal: &[u64],
+    p: Position,
+) -> Result<usize, Refusal>
     ensures { result ≡ take_back_look instructions.now cells journal.now p }
 {
     let done = p.done;
@@ -50,9 +54,8 @@ pub fn take_back(
     ensures { backed result cells.new ≡ taken_back cells.old journal.now p (take_back_look instructions.now (length cells.old / cell_width) journal.now p) }
 {
     let used = p.used;
-    let look = look_back(instructions, cells.len() / CELL_WIDTH, journal, p);
-    match look {
-        Err(number) => Err((number, p)),
+    match look_back(instructions, cells.len() / CELL_WIDTH, journal, p) {
+        Err(refusal) => Err((refusal, p)),
         Ok(changes) => {
             undo(cells, journal, used - (changes + 1), changes);
             let row = row_left_at(journal, used - 1);

@@ -1,6 +1,5 @@
 // A CALL: the reply is judged whole, then each of its rows is a write with its entry.
-ghost use Rattle.std.specs.Prelude.{◌≡◌, List, ◌+◌, ◌*◌, ◌≤◌, ◌<◌, length};
-ghost use Rattle.tables.specs.Outcome.{ok};
+ghost use Rattle.std.specs.Prelude.{◌≡◌, List, ◌+◌, ◌*◌, ◌≤◌, ◌<◌, length, Ok};
 ghost use Rattle.extern_call.specs.Call.{CallRanges};
 ghost use Rattle.journal.specs.Cells.{put, held, applied};
 ghost use Rattle.journal.specs.Entries.{entry_width, words_of, entered, journaled};
@@ -86,7 +85,7 @@ fn reply_step(
     reply: &[u64],
 ) -> StepAnswer
     requires { (Replying regions.now parameters.now arguments.now call cells.old reply.now) × (Placed (length journal.old) p) }
-    ensures { left result cells.new journal.new ≡ row_leaves cells.old journal.old p next (ok (reply_writes regions.now parameters.now arguments.now call reply.now)) }
+    ensures { left result cells.new journal.new ≡ row_leaves cells.old journal.old p next (Ok (reply_writes regions.now parameters.now arguments.now call reply.now)) }
 {
     let used = p.used;
     let row = p.row;
@@ -116,9 +115,8 @@ pub fn call_step(
     requires { (Layout regions.now cells.old) × (CallRanges externs.now parameters.now arguments.now x) × (Placed (length journal.old) p) }
     ensures { left result cells.new journal.new ≡ row_leaves cells.old journal.old p next (call_outcome regions.now externs.now parameters.now arguments.now x reply.now) }
 {
-    let judged = judge_call(regions, externs, parameters, arguments, x, reply);
-    match judged {
-        Err(number) => Err((number, p)),
+    match judge_call(regions, externs, parameters, arguments, x, reply) {
+        Err(refusal) => Err((refusal, p)),
         Ok(call) => reply_step(
             regions, parameters, arguments, call, cells, journal, p, next, reply,
         ),

@@ -17,9 +17,6 @@ use tables::family::CALL;
 use tables::refusal::Refusal;
 use tables::rows::{INSTRUCTION_LIMIT, INSTRUCTION_WIDTH, instruction_at};
 
-// What a turn comes to: the position after a step, or why it was not taken with the position as it was.
-type Turn = Result<Position, (Stop, Position)>;
-
 // What a forward comes to.
 fn turn_of(answer: StepAnswer) -> ControlFlow<(Stop, Position), Position>
     ensures { (rest : Rest) (taken : ℕ) (cells journal : List ℕ) → after_turn rest taken cells journal result ≡ onward rest taken cells journal answer }
@@ -48,11 +45,11 @@ fn take_turn(
 {
     let row = p.row;
     if instructions.len() / INSTRUCTION_WIDTH <= row {
-        return Err((Stop::End, p));
+        return ControlFlow::Break((Stop::End, p));
     }
     let x = instruction_at(instructions, row);
     if x.family == CALL {
-        return Err((Stop::Call, p));
+        return ControlFlow::Break((Stop::Call, p));
     }
     let answer = step_row(
         regions,
@@ -102,8 +99,8 @@ pub fn run_rows(
             position,
         );
         match turn {
-            Err((stop, at)) => return Ok((taken, stop, at)),
-            Ok(next) => position = next,
+            ControlFlow::Break((stop, at)) => return Ok((taken, stop, at)),
+            ControlFlow::Continue(next) => position = next,
         }
     }
     Ok((allowance, Stop::Allowance, position))

@@ -1,6 +1,5 @@
 use Rattle.std.proofs.Common.{sym, ◌∙◌}
 use Rattle.tables.specs.Outcome.{need}
-use Rattle.session.proofs.AnswerLaws.{look-passed, look-failed}
 use Rattle.session_run.specs.Turn.{run_cells}
 use Rattle.session_run.proofs.run.run_cells.Goals as goal
 
