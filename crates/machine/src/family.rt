@@ -109,6 +109,7 @@ pub fn comparison(cells: &[u64], x: Instruction, a: Addresses) -> RowOutcome
     })
 }
 
+// As `arithmetic`, and not one function over closures: `Quotient` and `Shifted` are two types, each with its refusal.
 pub fn logic(cells: &[u64], x: Instruction, a: Addresses) -> RowOutcome
     requires { TargetAndSource cells.now x a }
     ensures { row_outcome result ≡ logic_of cells.now x a }
