@@ -96,7 +96,7 @@ fn write_errors(
     count
 }
 
-// The resolved rows, in order; how many.
+// The resolved rows, in order; how many. As `write_errors`, and not one function over a closure: its clause would name neither row, and speak of the closure's answer for each argument.
 fn write_resolved(
     regions: &[u64],
     parameters: &[u64],

@@ -3,7 +3,7 @@ use Rattle.std.proofs.Common.{ℕ, suc, ◌+◌, ◌-◌, ◌*◌, ◌<◌, ◌�
 use lib.Seq.{sets}
 use Rattle.tables.proofs.FirstLaws.{left_suc}
 use Rattle.memory.specs.References.{next_of}
-use Rattle.memory.specs.Batch.{Batch, step_then, batch_of, reference_width, reference_words, rows_words, room_of, Handing, handing, hand_out}
+use Rattle.memory.specs.Batch.{Batch, step_then, batch_of, reference_width, reference_words, rows_words, Handing, handing}
 use Rattle.memory.specs.declared.MemoryReference.{MemoryReference}
 use Rattle.memory.specs.declared.Stepped.{Stepped}
 
@@ -15,15 +15,6 @@ after count batch rows =
 -- what is left of a list of that room, of which `count` rows were filled
 abbrev pub left_from : List ℕ → ℕ → ℕ → ℕ → List ℕ → Handing
 left_from nodes room place count rows = after count (batch_of nodes place (room - count)) rows
-
-pub left-start : (nodes : List ℕ) (place : ℕ) (rows : List ℕ) → left_from nodes (room_of rows) place 0 rows ≡ hand_out nodes place rows
-unfolding hand_out
-left-start nodes place rows =
-    let b = batch_of nodes place (room_of rows) in
-    let d : room_of rows - 0 ≡ room_of rows = omega arith in
-    let z : 0 * reference_width ≡ 0 = omega arith in
-    let e : 0 + length b.references ≡ length b.references = omega arith in
-    rw (d, z, e)
 
 module _ (nodes : List ℕ) (room place count : ℕ) (rows : List ℕ) where
   -- a full list

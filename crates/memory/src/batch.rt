@@ -1,4 +1,6 @@
 // The memory references of an expression by lists: as many steps of the walk as a lent list has room for.
+#![tactic(auto, unfolding(crate::specs::Batch::hand_out, crate::specs::Batch::hand_out_in, crate::specs::Batch::batch_in))]
+
 ghost use Rattle.std.specs.Prelude.{◌≡◌, true, ◌+◌, ◌≤◌, length};
 ghost use Rattle.std.proofs.lemmas.List.Edits.{sets};
 ghost use Rattle.tables.specs.Tree.{one_tree};

@@ -1,6 +1,6 @@
 // The memory references of an expression, handed out one after the other: quil-rs's iterator `MemoryReferences`, whose stack is a place in the parent-first node rows.
 // Translated from quil-rs, program/memory.rs (Apache-2.0), and changed: see NOTICE.
-#![tactic(auto)]
+#![tactic(auto, unfolding(crate::specs::References::next_of, crate::specs::References::next_in))]
 
 pub mod batch;
 

@@ -10,10 +10,6 @@ pub mark_below : (name : ℕ) → mark_of name < 251
 unfolding mark_of
 mark_below name = omega arith
 
--- a name's mark is a place among them
-pub mark_within : (name : ℕ) {r n : ℕ} → r ≡ mark_of name → n ≡ 251 → r < n
-mark_within name e f = omega (arith, mark_below name, e, f)
-
 module _ (width : ℕ) (xs : List ℕ) (marks : List Bool) (n : ℕ) (m : Marked width xs marks n) where
   -- row n's name, whose mark r is not set, is no earlier row's
   pub unmarked : {r : ℕ} → r ≡ mark_of (name_at width xs n) → get_or marks r false ≡ false → lookup_among width xs (name_at width xs n) n ≡ None

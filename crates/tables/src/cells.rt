@@ -1,4 +1,6 @@
 // Refusal 10: the number of cells.
+#![tactic(auto, unfolding(crate::specs::Cells::first_cell, crate::specs::Sum::sum_to, crate::specs::Cells::cell_count, crate::specs::Cells::cells_of, crate::specs::Outcome::need))]
+
 ghost use Rattle.std.specs.Prelude.{◌≡◌, ◌<◌};
 ghost use Rattle.tables.specs.Rows.{region_rows};
 ghost use Rattle.tables.specs.Cells.{cells_in, cells_of};

@@ -80,6 +80,7 @@ pub struct Instruction {
     pub source_second: u64,
 }
 
+// A decoder for each table, since its contract names the table's own row; a trait over the six would keep these bodies and add a member to each clause.
 pub fn region_at(regions: &[u64], row: usize) -> Region
     requires { row < region_rows regions.now }
     ensures { result ≡ region_at regions.now row }

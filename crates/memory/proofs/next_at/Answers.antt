@@ -1,15 +1,10 @@
-use Rattle.std.proofs.Common.{sym, ap, ◌∙◌, ◌≡◌, refl, arith, eq-eqb, ne_eqb}
+use Rattle.std.proofs.Common.{sym, ap, ◌∙◌, ◌≡◌, arith, eq-eqb, ne_eqb}
 use Rattle.tables.specs.declared.rows.Node.{Node}
 use Rattle.tables.proofs.FirstLaws.{first_hit, first_miss, first-end}
-use Rattle.memory.specs.References.{next_of}
 use Rattle.memory.proofs.next_at.Goals as goal
 
 tag_of : {node decoded : Node} → node ≡ decoded → decoded.tag ≡ node.tag
 tag_of e = ap (λ (x : Node). x.tag) (sym e)
-
-pub loop-i-init : goal.loop-i-init
-unfolding next_of
-loop-i-init c = refl
 
 pub returns-then-node-eq-ADDRESS : goal.returns-then-node-eq-ADDRESS
 returns-then-node-eq-ADDRESS c = rw c.node_at-node.ensures (sym (first_hit _ _ _ _ _ (omega arith) (eq-eqb _ _ (tag_of c.node_at-node.ensures ∙ c.if-node-eq-ADDRESS.true))) ∙ c.loop-i.invariant)

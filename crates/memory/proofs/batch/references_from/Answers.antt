@@ -1,9 +1,6 @@
 use Rattle.std.proofs.Common.{◌≡◌, ◌/◌, length, sym, ◌∙◌, arith}
-use Rattle.memory.proofs.BatchLaws.{left-start, left_end, left-turn, left_full}
+use Rattle.memory.proofs.BatchLaws.{left_end, left-turn, left_full}
 use Rattle.memory.proofs.batch.references_from.Goals as goal
-
-pub loop-count-init : goal.loop-count-init
-loop-count-init c = left-start _ _ _
 
 pub returns-in_default : goal.returns-in_default
 returns-in_default c = sym (left_end _ _ c.loop-count.passed _ _ _ c.next_from-stepped.ensures (omega arith) c.in_default.is) ∙ c.loop-count.invariant

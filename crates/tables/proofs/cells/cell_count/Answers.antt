@@ -1,13 +1,8 @@
-use Rattle.std.proofs.Common.{ap, refl, ◌∙◌, ◌+◌, arith}
+use Rattle.std.proofs.Common.{ap, ◌∙◌, ◌+◌, arith}
 use Rattle.tables.specs.Rows.{region_rows}
-use Rattle.tables.specs.Sum.{sum_to}
 use Rattle.tables.specs.Cells.{first_cell, cell_count}
 use Rattle.tables.proofs.CellsLaws.{first_cell-next, first_cell_mono, cells_over, cells-counted}
 use Rattle.tables.proofs.cells.cell_count.Goals as goal
-
-pub loop-i-init : goal.loop-i-init
-unfolding first_cell sum_to
-loop-i-init c = record { sum = refl; within = omega arith }
 
 pub returns-then-cells-own : goal.returns-then-cells-own
 unfolding cell_count
@@ -15,9 +10,6 @@ returns-then-cells-own c =
     let e = first_cell-next c.args.regions.now c.loop-i.i in
     let h = first_cell_mono c.args.regions.now (c.loop-i.i + 1) (region_rows c.args.regions.now) (omega arith) in
     cells_over c.args.regions.now (omega (arith, e, h, c.cells_in-own.ensures))
-
-pub loop-i-preserved : goal.loop-i-preserved
-loop-i-preserved c = record { sum = omega (arith, first_cell-next c.args.regions.now c.loop-i.i, c.cells_in-own.ensures); within = omega arith }
 
 pub returns : goal.returns
 unfolding cell_count

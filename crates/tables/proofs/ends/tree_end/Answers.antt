@@ -11,9 +11,6 @@ returns-then-children-eq0 c = end-leaf _ _ c.requires.0 (sym c.requires.3 ∙ c.
 pub returns-then-children-eq1 : goal.returns-then-children-eq1
 returns-then-children-eq1 c = end-one _ _ c.requires.0 _ (sym c.requires.3 ∙ c.if-children-eq1.true) c.requires.1
 
-pub bounds-ends-next : goal.bounds-ends-next
-bounds-ends-next c = omega (arith, c.requires.1.within, c.requires.2.room)
-
 pub returns : goal.returns
 returns c =
     let l = second-after _ _ c.requires.0 _ c.requires.1 in

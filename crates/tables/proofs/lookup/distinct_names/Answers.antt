@@ -1,7 +1,7 @@
 use Rattle.std.proofs.Common.{refl, sym, ap, ◌∙◌, not, arith}
 use Rattle.tables.specs.Lookup.{distinct}
 use Rattle.tables.proofs.FirstLaws.{every-start, every_stop, every-turn, every-end}
-use Rattle.tables.proofs.MarksLaws.{mark_within, unmarked_rows, marked_row}
+use Rattle.tables.proofs.MarksLaws.{unmarked_rows, marked_row}
 use Rattle.tables.proofs.lookup.distinct_names.Goals as goal
 
 pub loop-i-init : goal.loop-i-init
@@ -11,9 +11,6 @@ loop-i-init c = record { marked = unmarked_rows _ _ _ refl; rest = every-start _
 pub returns-then-named_before : goal.returns-then-named_before
 unfolding distinct
 returns-then-named_before c = every_stop _ _ _ c.loop-i.invariant.rest (omega arith) (ap not (sym c.named_before.ensures ∙ c.if-named_before.true))
-
-pub bounds-marks-mark : goal.bounds-marks-mark
-bounds-marks-mark c = mark_within _ c.mark.ensures refl
 
 pub loop-i-preserved : goal.loop-i-preserved
 unfolding distinct
