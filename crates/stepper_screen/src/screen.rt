@@ -29,7 +29,6 @@ fn row_of(row: usize, rows: usize) {
 
 fn head(desk: Desk, rows: usize) {
     let position = desk.position;
-    let enough = desk.enough;
     text(b"-- ");
     row_of(position.row, rows);
     text(b", ");
@@ -39,16 +38,15 @@ fn head(desk: Desk, rows: usize) {
     text(b" of ");
     number((desk.journal / ENTRY_WIDTH) as u64);
     text(b" entries used");
-    beside_used(enough);
+    beside_used(desk.enough);
     byte(b'\n');
 }
 
 // For each region whether the current row names it.
 fn named(tables: &[u64; TABLE_WORDS], desk: Desk) -> [bool; REGION_LIMIT] {
     let lengths = desk.lengths;
-    let position = desk.position;
-    let current = row_at(table(tables, Table::Instructions, lengths), position.row);
-    match current {
+    let instructions = table(tables, Table::Instructions, lengths);
+    match row_at(instructions, desk.position.row) {
         Current::Row(x) => named_regions(
             table(tables, Table::Regions, lengths),
             table(tables, Table::Nodes, lengths),
@@ -70,7 +68,6 @@ fn screen(
 ) {
     let lengths = desk.lengths;
     let view = desk.view;
-    let position = desk.position;
     let instructions = table(tables, Table::Instructions, lengths);
     head(desk, instructions.len() / INSTRUCTION_WIDTH);
     program_rows(
@@ -80,7 +77,7 @@ fn screen(
         table(tables, Table::Nodes, lengths),
         table(tables, Table::Arguments, lengths),
         instructions,
-        position.row,
+        desk.position.row,
     );
     let named = named(tables, desk);
     region_lines(
