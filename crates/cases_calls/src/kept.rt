@@ -8,7 +8,6 @@ use console_c::reference::console_reference;
 use console_c::references::console_references;
 use console_c::resolve::console_resolve;
 use loader::load::load_row;
-use tables::look::Look;
 
 pub fn check(tables: &[u64], error: &mut [u64; 6]) {
     let number = console_check(
@@ -103,10 +102,10 @@ pub fn references(tables: &[u64], rows: &mut [u64], place: &mut [u64; 1], count:
     written(count);
 }
 
-fn number_of(look: Look) -> u64 {
+fn number_of(look: Result<(), Refusal>) -> u64 {
     match look {
-        Look::Accepted => 0,
-        Look::Refused(number) => number,
+        Ok(()) => 0,
+        Err(number) => number,
     }
 }
 

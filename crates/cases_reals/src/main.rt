@@ -7,7 +7,7 @@ use real_text::text::text_of;
 use script::descriptor::{STDIN_FILENO, STDOUT_FILENO};
 use script::line::{line_at, part, word_at};
 use script::number::read_number;
-use words::convert::{Converted, integer_to_real, real_to_integer};
+use words::convert::{integer_to_real, real_to_integer};
 
 fn write_real(word: u64) {
     let text = text_of(word);
@@ -47,8 +47,8 @@ fn write_bits(bits: u64) {
 
 fn write_integer(real: u64) {
     match real_to_integer(real) {
-        Converted::Word(integer) => write_bits(integer),
-        Converted::Outside => {
+        Some(integer) => write_bits(integer),
+        None => {
             io::write_all(STDOUT_FILENO, b"outside\n");
         }
     }

@@ -1,11 +1,12 @@
 -- A back on a reached session: its answer and what it leaves are the replay machine's. Assumes nothing.
+use Rattle.std.proofs.Common.{Ok, Err}
 use Prim.Native.Nat.{ℕ, suc, ◌+◌, ◌*◌, ◌-◌}
 use mathlib.Core.List.{List, [], ◌∷◌, ◌++◌}
 use mathlib.Core.Path.{◌≡◌, refl, sym, ap, ap₂, ◌∙◌}
 use native.Mathlib.Omega.{arith}
 use lib.ListN.{length, take, drop}
 use Rattle.tables.specs.Refusal.{nothing_to_take_back}
-use Rattle.tables.specs.Outcome.{Outcome, ok, refuse, ◌>>=◌, ◌>>◌, need}
+use Rattle.tables.specs.Outcome.{Outcome, ◌>>=◌, ◌>>◌, need}
 use Rattle.journal.specs.declared.cells.Write.{Write}
 use Rattle.journal.specs.declared.position.Position.{Position}
 use Rattle.journal.specs.Entries.{log, closing}
@@ -15,7 +16,6 @@ use Rattle.journal.proofs.RestoreLaws.{restored-olds}
 use Rattle.session.specs.Position.{placed_look}
 use Rattle.session.specs.Leaves.{with_tail}
 use Rattle.session_back.specs.Back.{last_row, first_entry, journal_look, back_look, Back, backed, taken_back, back_tables}
-use Rattle.session.specs.declared.answer.StepAnswer.TheVariants.{Moved, Refused}
 use Rattle.sequence.specs.Calls.{back}
 use Rattle.sequence.specs.Replay.{Machine, History, State, place_after, row_after, cells_after, writes_after, used_after, cells_at, position_at, replayed}
 use Rattle.sequence.specs.Journal.{steps_after, journal_after, journal_at}
@@ -28,19 +28,19 @@ at h = record { history = h }
 module _ {M : Machine} {past : List ℕ} (started : Started M past) where
   -- ---- with no step done: 12
 
-  pub none_dropped : replayed M back (at []) ≡ refuse nothing_to_take_back
+  pub none_dropped : replayed M back (at []) ≡ Err nothing_to_take_back
   unfolding replayed ◌>>=◌ ◌>>◌
   none_dropped = rw started.prepared
 
   pub back_none : (rest : List ℕ) → Within M (at []) rest
       → back_tables M.tables (cells_at M (at []) ++ past) (journal_at M (at []) ++ rest) (position_at M (at []))
-      ≡ backed (Refused nothing_to_take_back (position_at M (at []))) (cells_at M (at []) ++ past)
+      ≡ backed (Err (nothing_to_take_back, position_at M (at []))) (cells_at M (at []) ++ past)
   unfolding back_tables taken_back with_tail back_look placed_look journal_look ◌>>=◌ ◌>>◌ need
   back_none rest w = rw (prepared_at started w, position-fits started w, cells_taken started [], past_left started [])
 
   -- ---- the last step taken back
 
-  pub last_dropped : (reply : List ℕ) (h : History) → replayed M back (at (reply ∷ h)) ≡ ok (at h)
+  pub last_dropped : (reply : List ℕ) (h : History) → replayed M back (at (reply ∷ h)) ≡ Ok (at h)
   unfolding replayed ◌>>=◌ ◌>>◌
   last_dropped reply h = rw started.prepared
 
@@ -60,7 +60,7 @@ module _ {M : Machine} {past : List ℕ} (started : Started M past) where
     placed_is : position_at M (at (reply ∷ h)) ≡ placed (row_after M (reply ∷ h)) (suc (length h)) (steps_after M (reply ∷ h))
     placed_is = λ i. record { row = row_after M (reply ∷ h); done = suc (length h); used = sym (used_is M (reply ∷ h)) i }
 
-    look : journal_look M.tables.instructions (count M) journal (position_at M (at (reply ∷ h))) ≡ ok (length os)
+    look : journal_look M.tables.instructions (count M) journal (position_at M (at (reply ∷ h))) ≡ Ok (length os)
     unfolding steps_after
     look =
         ap (journal_look M.tables.instructions (count M) journal) placed_is
@@ -72,7 +72,7 @@ module _ {M : Machine} {past : List ℕ} (started : Started M past) where
     unfolding steps_after
     left_is = ap (last_row journal) placed_is ∙ row_is (step_after M h reply) (steps_after M h) rest
 
-    back_look_lem : back_look M.tables (length (cells_after M (reply ∷ h) ++ past)) journal (position_at M (at (reply ∷ h))) ≡ ok (length os)
+    back_look_lem : back_look M.tables (length (cells_after M (reply ∷ h) ++ past)) journal (position_at M (at (reply ∷ h))) ≡ Ok (length os)
     unfolding back_look placed_look ◌>>=◌ ◌>>◌ need
     back_look_lem = rw (prepared_at started w, position-fits started w) look
 
@@ -97,11 +97,11 @@ module _ {M : Machine} {past : List ℕ} (started : Started M past) where
         (past_left started (reply ∷ h))
 
     pub back_last : back_tables M.tables (cells_after M (reply ∷ h) ++ past) journal (position_at M (at (reply ∷ h)))
-        ≡ backed (Moved (position_at M (at h))) (cells_after M h ++ past)
+        ≡ backed (Ok (position_at M (at h))) (cells_after M h ++ past)
     unfolding back_tables taken_back with_tail
     back_last =
         ap (λ (o : Outcome ℕ). with_tail (2 * count M) (cells_after M (reply ∷ h) ++ past) (λ cells. taken_back cells journal (position_at M (at (reply ∷ h))) o)) back_look_lem
-        ∙ (λ i. backed (Moved (position_is i)) (memory_is i))
+        ∙ (λ i. backed (Ok (position_is i)) (memory_is i))
 
     -- its entries lie past the used part again
     pub back-within : Within M (at h) (log (cells_after M h) (writes_after M h reply) ++ (closing (length (writes_after M h reply)) (row_after M h) ++ rest))

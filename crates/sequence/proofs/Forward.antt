@@ -1,5 +1,6 @@
 -- A forward on a reached session: its answer and what it leaves are the replay machine's, its answer is never 18, and on a CALL it changes only cells of the write set.
 -- Assumes nothing.
+use Rattle.std.proofs.Common.{Ok, Err}
 use Prim.Native.Nat.{ℕ, ◌+◌, ◌*◌, ◌<◌, ◌≤◌}
 use mathlib.Core.Bool.{true, false≢true}
 use mathlib.Core.Logic.{◌≢◌}
@@ -9,7 +10,7 @@ use native.Mathlib.Numerals.{add-one}
 use native.Mathlib.Omega.{arith}
 use lib.ListN.{length, take, drop}
 use Rattle.tables.specs.Refusal.{no_rule}
-use Rattle.tables.specs.Outcome.{Outcome, ok, refuse, ◌>>=◌, ◌>>◌, need}
+use Rattle.tables.specs.Outcome.{Outcome, ◌>>=◌, ◌>>◌, need}
 use Rattle.tables.specs.Rows.{instruction_at}
 use Rattle.tables.specs.declared.rows.Instruction.{Instruction}
 use Rattle.journal.specs.declared.cells.Write.{Write}
@@ -26,7 +27,6 @@ use Rattle.session.specs.Position.{placed_look}
 use Rattle.session.specs.Leaves.{with_tail}
 use Rattle.session_forward.specs.Forward as session
 use Rattle.session_forward.specs.Forward.{forward_look, Left, left, forward_tables}
-use Rattle.session.specs.declared.answer.StepAnswer.TheVariants.{Moved, Refused}
 use Rattle.soundness.specs.Sound.{GoodWrite}
 use Rattle.sequence.specs.Calls.{of_step, number_of}
 use Rattle.sequence.specs.Replay.{Machine, State, made, place_after, writes_after, used_after, row_at, cells_at, used_at, position_at, replay_look, replayed, step_answer, next_state}
@@ -40,7 +40,7 @@ abbrev pub joined : State → List ℕ → State
 joined s reply = record { history = reply ∷ s.history }
 
 abbrev pub joins : State → List ℕ → Outcome (List Write) → Outcome State
-joins s reply o = o >>= (λ ws. ok (joined s reply))
+joins s reply o = o >>= (λ ws. Ok (joined s reply))
 
 module _ {M : Machine} {past : List ℕ} (started : Started M past) where
   -- ---- the looks
@@ -67,7 +67,7 @@ module _ {M : Machine} {past : List ℕ} (started : Started M past) where
         ≡ left (step_answer M s (joins s reply o)) (cells_at M (next_state s (joins s reply o)) ++ past) (journal_at M (next_state s (joins s reply o)) ++ rest')
     pub within : Within M (next_state s (joins s reply o)) rest'
 
-  module _ (s : State) (rest reply : List ℕ) (w : Within M s rest) (ws : List Write) (e : replay_look M s reply ≡ ok ws) where
+  module _ (s : State) (rest reply : List ℕ) (w : Within M s rest) (ws : List Write) (e : replay_look M s reply ≡ Ok ws) where
     seen : Steps M started.prepared s reply ws
     seen = steps M started.prepared s reply ws e
 
@@ -98,11 +98,11 @@ module _ {M : Machine} {past : List ℕ} (started : Started M past) where
         ∙ ap (λ (v : List Write). journal_at M s ++ (log (cells_at M s) v ++ (closing (length v) (row_at M s) ++ rest'))) made_is
         ∙ sym (journal_parted M reply s.history rest')
 
-    moved : Forwarded s rest reply (ok ws)
+    moved : Forwarded s rest reply (Ok ws)
     unfolding with_tail session.stepped ◌>>=◌
     moved = record {
       rest' = drop (3 * (length ws + 1)) rest;
-      leaves_is = λ i. record { answer = Moved (position_is i); memory = memory_is i; journal = journal_is i };
+      leaves_is = λ i. record { answer = Ok (position_is i); memory = memory_is i; journal = journal_is i };
       within = record {
         steps = (seen.row, w.steps);
         size = ap length (sym journal_is) ∙ length-journaled (journal_at M s ++ rest) (used_at M s) (row_at M s) (take (2 * count M) (cells_at M s ++ past)) ws ∙ w.size;
@@ -111,12 +111,12 @@ module _ {M : Machine} {past : List ℕ} (started : Started M past) where
 
   forwarded_by : (s : State) (rest reply : List ℕ) → Within M s rest → (o : Outcome (List Write)) → replay_look M s reply ≡ o → Forwarded s rest reply o
   unfolding with_tail session.stepped ◌>>=◌
-  forwarded_by s rest reply w (refuse n) e = record {
+  forwarded_by s rest reply w (Err n) e = record {
     rest' = rest;
-    leaves_is = ap₂ (λ (a b : List ℕ). left (Refused n (position_at M s)) (a ++ b) (journal_at M s ++ rest)) (cells_taken started s.history) (past_left started s.history);
+    leaves_is = ap₂ (λ (a b : List ℕ). left (Err (n, position_at M s)) (a ++ b) (journal_at M s ++ rest)) (cells_taken started s.history) (past_left started s.history);
     within = w;
   }
-  forwarded_by s rest reply w (ok ws) e = moved s rest reply w ws e
+  forwarded_by s rest reply w (Ok ws) e = moved s rest reply w ws e
 
   pub forwarded : (s : State) (rest reply : List ℕ) → Within M s rest → Forwarded s rest reply (replay_look M s reply)
   forwarded s rest reply w = forwarded_by s rest reply w (replay_look M s reply) refl
@@ -129,18 +129,18 @@ module _ {M : Machine} {past : List ℕ} (started : Started M past) where
 
   -- ---- a number that its looks do not give is not its answer
 
-  unanswered_by : (k : ℕ) → (0 ≡ k → ⊥) → (s : State) (reply : List ℕ) → (replay_look M s reply ≡ refuse k → ⊥) → (o : Outcome (List Write)) → replay_look M s reply ≡ o
+  unanswered_by : (k : ℕ) → (0 ≡ k → ⊥) → (s : State) (reply : List ℕ) → (replay_look M s reply ≡ Err k → ⊥) → (o : Outcome (List Write)) → replay_look M s reply ≡ o
       → number_of (of_step (step_answer M s (joins s reply o))) ≡ k → ⊥
   unfolding ◌>>=◌
-  unanswered_by k some s reply never (ok ws) e = some
-  unanswered_by k some s reply never (refuse n) e = λ z. never (e ∙ ap refuse z)
+  unanswered_by k some s reply never (Ok ws) e = some
+  unanswered_by k some s reply never (Err n) e = λ z. never (e ∙ ap Err z)
 
-  pub forward_unanswered : (k : ℕ) → (0 ≡ k → ⊥) → (s : State) (reply : List ℕ) → (replay_look M s reply ≡ refuse k → ⊥)
+  pub forward_unanswered : (k : ℕ) → (0 ≡ k → ⊥) → (s : State) (reply : List ℕ) → (replay_look M s reply ≡ Err k → ⊥)
       → number_of (of_step (step_answer M s (joins s reply (replay_look M s reply)))) ≡ k → ⊥
   forward_unanswered k some s reply never = unanswered_by k some s reply never (replay_look M s reply) refl
 
   -- "No call in it met an operand without a rule"
-  pub forward-ruled : (s : State) (reply : List ℕ) → InProgram M s.history → replay_look M s reply ≡ refuse no_rule → ⊥
+  pub forward-ruled : (s : State) (reply : List ℕ) → InProgram M s.history → replay_look M s reply ≡ Err no_rule → ⊥
   forward-ruled s reply l e =
       let r = refused_by_row M started.prepared s reply no_rule (omega arith) (λ ws l o full. omega arith) e in
       started.sound.ruled (cells_at M s) (row_at M s) reply (typed_after started s.history l) r.row r.outcome_is
@@ -161,8 +161,8 @@ module _ {M : Machine} {past : List ℕ} (started : Started M past) where
     kept_by : (o : Outcome (List Write)) → replay_look M s reply ≡ o
         → held (cells_at M (next_state s (joins s reply o)) ++ past) c ≡ held (cells_at M s ++ past) c
     unfolding place_after ◌>>=◌
-    kept_by (refuse n) e = refl
-    kept_by (ok ws) e =
+    kept_by (Err n) e = refl
+    kept_by (Ok ws) e =
         let seen = steps M started.prepared s reply ws e in
         held_among started (reply ∷ s.history) c l
         ∙ held-applied (cells_at M s) (writes_after M s.history reply) c (each_map apart (good-after started s.history reply (seen.row, inside)))

@@ -1,5 +1,6 @@
 -- A journal of the length that is counted is never full where no row is a jump: of the replay machine's steps each uses no more entries than are counted for its row, and no row
 -- is come to twice. Assumes nothing.
+use Rattle.std.proofs.Common.{Ok, Err}
 use Prim.Native.Nat.{ℕ, ◌+◌, ◌<◌, ◌≤◌}
 use mathlib.Core.Bool.{false≢true}
 use mathlib.Core.List.{List, [], ◌∷◌}
@@ -10,7 +11,7 @@ use borrow.Author.Tests.{le-leb}
 use Rattle.tables.specs.Cases.{case_of}
 use Rattle.tables.specs.Family as family
 use Rattle.tables.specs.Refusal.{journal_full}
-use Rattle.tables.specs.Outcome.{Outcome, ok, refuse}
+use Rattle.tables.specs.Outcome.{Outcome}
 use Rattle.tables.specs.Tables.{Tables}
 use Rattle.tables.specs.Rows.{instruction_at}
 use Rattle.tables.proofs.Cases.{by_key, past_keys}
@@ -65,7 +66,7 @@ module _ (M : Machine) (laid : Laid M.tables.regions) where
 
   -- ---- what a step uses
 
-  row-counted : (cells : List ℕ) (row : ℕ) (reply : List ℕ) {ws : List Write} → outcome_at M.tables cells row reply ≡ ok ws
+  row-counted : (cells : List ℕ) (row : ℕ) (reply : List ℕ) {ws : List Write} → outcome_at M.tables cells row reply ≡ Ok ws
       → length ws + 1 ≤ entries_for (instruction_at instructions row).family
   unfolding outcome_at
   row-counted cells row reply e =
@@ -77,8 +78,8 @@ module _ (M : Machine) (laid : Laid M.tables.regions) where
     where
       at : (o : Outcome (List Write)) → outcome_at M.tables (cells_after M h) (row_after M h) reply ≡ o
           → length (made o) + 1 ≤ entries_for (instruction_at instructions (row_after M h)).family
-      at (ok ws) e = row-counted (cells_after M h) (row_after M h) reply e
-      at (refuse n) e = omega (arith, most_counted (instruction_at instructions (row_after M h)).family)
+      at (Ok ws) e = row-counted (cells_after M h) (row_after M h) reply e
+      at (Err n) e = omega (arith, most_counted (instruction_at instructions (row_after M h)).family)
 
   -- ---- the entries in use, by the rows passed: the one law that leans on each step leading past its row
 
@@ -102,7 +103,7 @@ module _ (M : Machine) (laid : Laid M.tables.regions) where
   -- ---- 13
 
   module _ (straight : NoJumps M.tables) (enough : journal_length instructions ≤ entries_of M.journal_words) (s : State) (reply : List ℕ) where
-    room : InProgram M s.history → (ws : List Write) → row_at M s < rows M → outcome_at M.tables (cells_at M s) (row_at M s) reply ≡ ok ws
+    room : InProgram M s.history → (ws : List Write) → row_at M s < rows M → outcome_at M.tables (cells_at M s) (row_at M s) reply ≡ Ok ws
         → used_at M s + (length ws + 1) ≤ entries_of M.journal_words
     unfolding journal_length
     room inside ws l e =
@@ -116,7 +117,7 @@ module _ (M : Machine) (laid : Laid M.tables.regions) where
         )
 
     -- no row is refused with it, and there is room for what one writes
-    never_full : {past : List ℕ} → Started M past → InProgram M s.history → replay_look M s reply ≡ refuse journal_full → ⊥
+    never_full : {past : List ℕ} → Started M past → InProgram M s.history → replay_look M s reply ≡ Err journal_full → ⊥
     never_full started l e =
         let r = refused_by_row M started.prepared s reply journal_full (omega arith)
         (λ ws h o full z. false≢true (sym full ∙ le-leb (used_at M s + (length ws + 1)) (entries_of M.journal_words) (room l ws h o))) e in

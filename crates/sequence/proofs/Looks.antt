@@ -1,4 +1,5 @@
 -- What the replay machine's looks have seen, by what they gave: the step's writes, or a refusal of the row's; and that they are the session's. Assumes nothing.
+use Rattle.std.proofs.Common.{Ok, Err}
 use Prim.Native.Nat.{ℕ, ◌+◌, ◌-◌, ◌<◌, ◌≤◌}
 use mathlib.Core.Bool.{Bool, true, false}
 use mathlib.Core.List.{List}
@@ -8,7 +9,7 @@ use lib.Dec.{ltb, leb}
 use lib.ListN.{length}
 use borrow.Author.Tests.{ltb-true, leb-true, leb-false, le-leb, lt-leb}
 use Rattle.tables.specs.Refusal.{at_end, journal_full}
-use Rattle.tables.specs.Outcome.{Outcome, ok, refuse, ◌>>=◌, ◌>>◌, need}
+use Rattle.tables.specs.Outcome.{Outcome, ◌>>=◌, ◌>>◌, need}
 use Rattle.tables.specs.Rows.{instruction_rows}
 use Rattle.tables.proofs.Passed.{passed}
 use Rattle.journal.specs.declared.cells.Write.{Write}
@@ -20,25 +21,25 @@ use Rattle.session_forward.specs.Forward.{step_look}
 use Rattle.sequence.specs.Replay.{Machine, State, row_at, cells_at, used_at, position_at, looks_first, replay_look}
 
 -- a refusal k of a look that is not refused with k itself
-pub passed_over : {B : Type 0} (b : Bool) (n k : ℕ) (s : Outcome B) → (n ≡ k → ⊥) → (need b n >> s) ≡ refuse k → (b ≡ true) × (s ≡ refuse k)
+pub passed_over : {B : Type 0} (b : Bool) (n k : ℕ) (s : Outcome B) → (n ≡ k → ⊥) → (need b n >> s) ≡ Err k → (b ≡ true) × (s ≡ Err k)
 unfolding ◌>>◌ need
 passed_over true n k s ne e = (refl, e)
 passed_over false n k s ne e = absurd (ne (cc))
 
-bound_over : {A B : Type 0} (s : Outcome A) (f : A → Outcome B) (k : ℕ) → ((a : A) → s ≡ ok a → f a ≡ refuse k → ⊥) → (s >>= f) ≡ refuse k → s ≡ refuse k
+bound_over : {A B : Type 0} (s : Outcome A) (f : A → Outcome B) (k : ℕ) → ((a : A) → s ≡ Ok a → f a ≡ Err k → ⊥) → (s >>= f) ≡ Err k → s ≡ Err k
 unfolding ◌>>=◌
-bound_over (ok a) f k never e = absurd (never a refl e)
-bound_over (refuse n) f k never e = cc
+bound_over (Ok a) f k never e = absurd (never a refl e)
+bound_over (Err n) f k never e = cc
 
 -- what comes after is the same
 pub bind_same : {A B : Type 0} (s : Outcome A) (f g : A → Outcome B) → ((a : A) → f a ≡ g a) → (s >>= f) ≡ (s >>= g)
 unfolding ◌>>=◌
-bind_same (ok a) f g same = same a
-bind_same (refuse n) f g same = refl
+bind_same (Ok a) f g same = same a
+bind_same (Err n) f g same = refl
 
 -- ---- where the first looks refuse nothing
 
-module _ (M : Machine) {n : ℕ} (prepared : looks_first M ≡ ok n) (s : State) (reply : List ℕ) where
+module _ (M : Machine) {n : ℕ} (prepared : looks_first M ≡ Ok n) (s : State) (reply : List ℕ) where
   abbrev here : Bool
   here = ltb (row_at M s) (instruction_rows M.tables.instructions)
 
@@ -49,7 +50,7 @@ module _ (M : Machine) {n : ℕ} (prepared : looks_first M ≡ ok n) (s : State)
   room ws = leb (used_at M s + (length ws + 1)) (entries_of M.journal_words)
 
   -- 11, the row's, 13
-  look_is : replay_look M s reply ≡ (need here at_end >> (outcome >>= (λ ws. need (room ws) journal_full >> ok ws)))
+  look_is : replay_look M s reply ≡ (need here at_end >> (outcome >>= (λ ws. need (room ws) journal_full >> Ok ws)))
   unfolding replay_look ◌>>◌
   look_is = rw prepared
 
@@ -57,10 +58,10 @@ module _ (M : Machine) {n : ℕ} (prepared : looks_first M ≡ ok n) (s : State)
 
   pub record Steps (ws : List Write) : Type 0 where
     pub row : row_at M s < instruction_rows M.tables.instructions
-    pub outcome_is : outcome ≡ ok ws
+    pub outcome_is : outcome ≡ Ok ws
     pub fits : used_at M s + (length ws + 1) ≤ entries_of M.journal_words
 
-  pub steps : (ws : List Write) → replay_look M s reply ≡ ok ws → Steps ws
+  pub steps : (ws : List Write) → replay_look M s reply ≡ Ok ws → Steps ws
   steps ws e =
       let (here_is, e₁) = passed here _ _ _ (sym look_is ∙ e) in
       let b = bound outcome _ ws e₁ in
@@ -76,19 +77,19 @@ module _ (M : Machine) {n : ℕ} (prepared : looks_first M ≡ ok n) (s : State)
 
   pub record RowRefused (k : ℕ) : Type 0 where
     pub row : row_at M s < instruction_rows M.tables.instructions
-    pub outcome_is : outcome ≡ refuse k
+    pub outcome_is : outcome ≡ Err k
 
-  room_over : (k : ℕ) (ws : List Write) → (room ws ≡ false → journal_full ≡ k → ⊥) → (need (room ws) journal_full >> ok ws) ≡ refuse k → ⊥
+  room_over : (k : ℕ) (ws : List Write) → (room ws ≡ false → journal_full ≡ k → ⊥) → (need (room ws) journal_full >> Ok ws) ≡ Err k → ⊥
   unfolding ◌>>◌ need
   room_over k ws full e = at (room ws) refl e
     where
-      at : (b : Bool) → room ws ≡ b → (need b journal_full >> ok ws) ≡ refuse k → ⊥
+      at : (b : Bool) → room ws ≡ b → (need b journal_full >> Ok ws) ≡ Err k → ⊥
       at true r e = let z : ◌≡◌ {A = ℕ} 0 1 = cc in omega arith
       at false r e = full r (cc)
 
   -- a number that is not 11, nor 13 for want of room, is the row's
-  pub refused_by_row : (k : ℕ) → (at_end ≡ k → ⊥) → ((ws : List Write) → row_at M s < instruction_rows M.tables.instructions → outcome ≡ ok ws → room ws ≡ false → journal_full ≡ k → ⊥)
-      → replay_look M s reply ≡ refuse k → RowRefused k
+  pub refused_by_row : (k : ℕ) → (at_end ≡ k → ⊥) → ((ws : List Write) → row_at M s < instruction_rows M.tables.instructions → outcome ≡ Ok ws → room ws ≡ false → journal_full ≡ k → ⊥)
+      → replay_look M s reply ≡ Err k → RowRefused k
   refused_by_row k ended full e =
       let (here_is, e₁) = passed_over here at_end k _ ended (sym look_is ∙ e) in
       let l = ltb-true (row_at M s) (instruction_rows M.tables.instructions) here_is in
@@ -108,5 +109,5 @@ module _ (M : Machine) {n : ℕ} (prepared : looks_first M ≡ ok n) (s : State)
   unfolding step_look room_for
   same_look l =
       ap (λ o. need here at_end >> o)
-      (bind_same outcome _ _ (λ ws. ap (λ b. need b journal_full >> ok ws) (room_same (length ws) (used_at M s) (entries_of M.journal_words) l)))
+      (bind_same outcome _ _ (λ ws. ap (λ b. need b journal_full >> Ok ws) (room_same (length ws) (used_at M s) (entries_of M.journal_words) l)))
       ∙ sym look_is

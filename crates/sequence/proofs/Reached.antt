@@ -1,5 +1,6 @@
 -- The sessions that are reached: the replay machine at a state, laid out in the lent buffers. Their cells keep the declared kinds, their lengths never change,
 -- and forward's and back's looks before 11 and 12 refuse nothing on them. Assumes nothing.
+use Rattle.std.proofs.Common.{Ok, Err}
 use Prim.Native.Nat.{ℕ, ◌+◌, ◌*◌, ◌<◌, ◌≤◌}
 use mathlib.Core.List.{List, [], ◌∷◌, ◌++◌}
 use mathlib.Core.Path.{◌≡◌, refl, sym, ap, ◌∙◌, subst}
@@ -7,7 +8,7 @@ use native.Mathlib.Omega.{arith}
 use lib.ListN.{get_or-append, length, take, drop, length-append}
 use lib.Seq.{take_at, drop_at}
 use mathlib.Core.Bool.{true}
-use Rattle.tables.specs.Outcome.{Outcome, ok, refuse}
+use Rattle.tables.specs.Outcome.{Outcome}
 use Rattle.tables.specs.Rows.{instruction_rows, instruction_at}
 use Rattle.tables.specs.Cells.{cell_count}
 use Rattle.journal.specs.declared.cells.Write.{Write}
@@ -79,7 +80,7 @@ pub record Started (M : Machine) (past : List ℕ) : Type 0 where
   pub sound : Sound M.tables
   pub typed : Typed M.tables.regions M.start_cells
   pub behind : 2 * count M + length past ≡ M.memory_words
-  pub prepared : looks_first M ≡ ok (count M)
+  pub prepared : looks_first M ≡ Ok (count M)
 
 -- the replay machine at a state, with `past` behind the cells and `rest` in the journal past the used part
 abbrev pub session_at : Machine → List ℕ → State → List ℕ → Session
@@ -107,8 +108,8 @@ module _ {M : Machine} {past : List ℕ} (started : Started M past) where
   good-made : (h : History) (reply : List ℕ) → row_after M h < rows M → Typed M.tables.regions (cells_after M h)
       → (o : Outcome (List Write)) → outcome_at M.tables (cells_after M h) (row_after M h) reply ≡ o
       → Each (GoodWrite M.tables (instruction_at M.tables.instructions (row_after M h))) (made o)
-  good-made h reply l f (refuse n) e = none
-  good-made h reply l f (ok ws) e = started.sound.good (cells_after M h) (row_after M h) reply ws f l e
+  good-made h reply l f (Err n) e = none
+  good-made h reply l f (Ok ws) e = started.sound.good (cells_after M h) (row_after M h) reply ws f l e
 
   pub typed_after : (h : History) → InProgram M h → Typed M.tables.regions (cells_after M h)
   unfolding place_after
@@ -158,7 +159,7 @@ module _ {M : Machine} {past : List ℕ} (started : Started M past) where
     spent = omega (arith, length-append (journal_at M s) rest, length-journal M s.history, within.size)
 
     -- 1, 2, 3, 10, 4
-    pub prepared_at : prepared_of M.tables (length (cells_at M s ++ past)) (length (journal_at M s ++ rest)) ≡ ok (count M)
+    pub prepared_at : prepared_of M.tables (length (cells_at M s ++ past)) (length (journal_at M s ++ rest)) ≡ Ok (count M)
     prepared_at = rw (length-append (cells_at M s) past, wide s.history, started.behind, within.size) started.prepared
 
     -- 19

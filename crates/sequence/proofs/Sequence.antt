@@ -1,5 +1,6 @@
 -- The sequence theorem. The crate's main law is `agrees`: from start cells of the declared kinds every list of calls on the lent buffers does what the replay machine does.
 -- `faithful` says it after an accepted open. Of the step they use the record `Sound` alone, which they are handed. No axioms.
+use Rattle.std.proofs.Common.{Ok, Err}
 use Prim.Native.Nat.{ℕ, ◌+◌, ◌*◌}
 use mathlib.Core.List.{List, [], ◌∷◌, ◌++◌}
 use mathlib.Core.Path.{◌≡◌, refl, sym, ap, ap₂, ◌∙◌, subst}
@@ -7,7 +8,7 @@ use native.Mathlib.Omega.{arith}
 use lib.ListN.{length, take, drop, length-drop}
 use lib.Seq.{take_at}
 use Rattle.tables.specs.Refusal.{nothing_to_take_back, no_rule}
-use Rattle.tables.specs.Outcome.{Outcome, ok, refuse, ◌>>=◌}
+use Rattle.tables.specs.Outcome.{Outcome, ◌>>=◌}
 use Rattle.tables.specs.Tables.{Tables}
 use Rattle.tables.specs.Cells.{cell_count}
 use Rattle.journal.specs.Cells.{held}
@@ -65,8 +66,8 @@ module _ {M : Machine} {past : List ℕ} (started : Started M past) where
   follows back s rest w = follows_back s.history rest w
 
   position-next : (s : State) (o : Outcome State) → position_of (of_step (step_answer M s o)) ≡ position_at M (next_state s o)
-  position-next s (ok s') = refl
-  position-next s (refuse n) = refl
+  position-next s (Ok s') = refl
+  position-next s (Err n) = refl
 
   -- and so the session after it is reached too
   reaches : (c : Call) (s : State) (rest : List ℕ) (f : Follows c s rest (replayed M c s))
@@ -109,7 +110,7 @@ module _ {M : Machine} {past : List ℕ} (started : Started M past) where
   -- ---- a number that is neither 0 nor 12 and that no forward's looks give is no answer of a list
 
   module _ (k : ℕ) (some : 0 ≡ k → ⊥) (last : nothing_to_take_back ≡ k → ⊥)
-      (never : (s : State) (reply : List ℕ) → InProgram M s.history → replay_look M s reply ≡ refuse k → ⊥) where
+      (never : (s : State) (reply : List ℕ) → InProgram M s.history → replay_look M s reply ≡ Err k → ⊥) where
     back_unanswered : (h : History) → number_of (replay_answer M back (record { history = h })) ≡ k → ⊥
     back_unanswered [] = rw (none_dropped started) last
     back_unanswered (reply ∷ h) = rw (last_dropped started reply h) some

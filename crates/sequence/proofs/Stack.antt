@@ -1,4 +1,5 @@
 -- The journal of steps by their old values and the rows that they left, and its last step read back: what back's looks find and what it restores, whatever the memory holds. Assumes nothing.
+use Rattle.std.proofs.Common.{Ok}
 use Prim.Native.Nat.{ℕ, ◌+◌, ◌*◌, ◌-◌, ◌<◌}
 use mathlib.Core.Bool.{true}
 use mathlib.Core.List.{List, [], ◌∷◌, ◌++◌, append_assoc}
@@ -6,7 +7,7 @@ use mathlib.Core.Path.{◌≡◌, refl, sym, ap, ap₂, ◌∙◌}
 use native.Mathlib.Omega.{arith}
 use lib.ListN.{length, length-append}
 use borrow.Author.Tests.{lt-ltb}
-use Rattle.tables.specs.Outcome.{ok, ◌>>=◌, ◌>>◌, need}
+use Rattle.tables.specs.Outcome.{◌>>=◌, ◌>>◌, need}
 use Rattle.tables.specs.Rows.{instruction_rows}
 use Rattle.journal.specs.declared.position.Position.{Position}
 use Rattle.journal.specs.Entries.{flatten, closing, changes_at, row_left_at, entries_at}
@@ -77,7 +78,7 @@ module _ (s : Step) (steps : Steps) (rest : List ℕ) where
 
   -- 12 and 19 of the journal: none is met where the cells are there and the row left is one
   pub journal_look_lem : (instructions : List ℕ) (cells row done : ℕ) → 0 < done → present cells s.olds ≡ true → s.row < instruction_rows instructions
-      → journal_look instructions cells (stacked (s ∷ steps) ++ rest) (placed row done (s ∷ steps)) ≡ ok changes
+      → journal_look instructions cells (stacked (s ∷ steps) ++ rest) (placed row done (s ∷ steps)) ≡ Ok changes
   unfolding journal_look ◌>>=◌ ◌>>◌ need
   journal_look_lem instructions cells row done some there left =
       rw (

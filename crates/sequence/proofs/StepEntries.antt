@@ -1,4 +1,6 @@
 -- Every forward that moves uses at most 65 entries more, over a CONVERT 2, whatever it is lent: behind its looks the cells are not too many, and then the changes are counted by the row's family. Assumes nothing.
+use Rattle.session.specs.Answer.{StepAnswer}
+use Rattle.std.proofs.Common.{Ok, Err}
 use Prim.Native.Nat.{ℕ, ◌+◌, ◌*◌, ◌≤◌}
 use mathlib.Core.List.{List}
 use mathlib.Core.Bool.{true}
@@ -9,7 +11,7 @@ use lib.ListN.{length, take}
 use borrow.Author.Tests.{eqb-true}
 use Rattle.tables.specs.Cases.{case_of}
 use Rattle.tables.specs.Family as family
-use Rattle.tables.specs.Outcome.{Outcome, ok, refuse}
+use Rattle.tables.specs.Outcome.{Outcome}
 use Rattle.tables.specs.Tables.{Tables}
 use Rattle.tables.specs.Rows.{instruction_rows, instruction_at}
 use Rattle.tables.specs.Cells.{cell_count}
@@ -28,8 +30,6 @@ use Rattle.session.specs.Prepare.{entries_of, prepared_of}
 use Rattle.session.specs.Position.{placed_look, room_for}
 use Rattle.session.specs.Leaves.{with_tail}
 use Rattle.session.specs.Answer.{position_of}
-use Rattle.session.specs.declared.answer.StepAnswer.{StepAnswer}
-use Rattle.session.specs.declared.answer.StepAnswer.TheVariants.{Moved}
 use Rattle.session.proofs.Prepared.{prepared}
 use Rattle.session_forward.specs.Forward.{step_look, forward_look, stepped, forward_tables}
 use Rattle.soundness.proofs.Counts.{plain_changes, outcome_most, most_few}
@@ -39,11 +39,11 @@ use Rattle.sequence.specs.JournalLength.{StepEntries, ConvertEntries}
 record Looked (t : Tables) (p : Position) (reply : List ℕ) (ws : List Write) : Type 0 where
   cells : List ℕ
   laid : Laid t.regions
-  outcome_is : outcome_at t cells p.row reply ≡ ok ws
+  outcome_is : outcome_at t cells p.row reply ≡ Ok ws
 
 module _ (t : Tables) (p : Position) (reply : List ℕ) {ws : List Write} where
   -- behind 11, the row's looks and 13
-  step-looked : Laid t.regions → (cells : List ℕ) (entries : ℕ) → step_look t cells entries p reply ≡ ok ws → Looked t p reply ws
+  step-looked : Laid t.regions → (cells : List ℕ) (entries : ℕ) → step_look t cells entries p reply ≡ Ok ws → Looked t p reply ws
   unfolding step_look room_for
   step-looked laid cells entries e =
       let (l, e₁) = passed (ltb p.row (instruction_rows t.instructions)) _ _ _ e in
@@ -52,7 +52,7 @@ module _ (t : Tables) (p : Position) (reply : List ℕ) {ws : List Write} where
       record { cells = cells; laid = laid; outcome_is = b.given ∙ e₂ }
 
   -- behind 1, 2, 3, 10 and 4 too, after which the cells are not too many
-  forward-looked : (memory : List ℕ) (journal : ℕ) → forward_look t memory journal p reply ≡ ok ws → Looked t p reply ws
+  forward-looked : (memory : List ℕ) (journal : ℕ) → forward_look t memory journal p reply ≡ Ok ws → Looked t p reply ws
   unfolding forward_look placed_look
   forward-looked memory journal e =
       let b = bound (placed_look t (length memory) journal p) _ ws e in
@@ -79,13 +79,13 @@ record Changed (t : Tables) (p : Position) (reply : List ℕ) (p' : Position) : 
   looked : Looked t p reply writes
   used : p.used + (length writes + 1) ≡ p'.used
 
-moved_by : (t : Tables) (cells journal : List ℕ) (p p' : Position) (reply : List ℕ) (next : ℕ) (o : Outcome (List Write)) → ((ws : List Write) → o ≡ ok ws → Looked t p reply ws)
-    → (stepped cells journal p next o).answer ≡ Moved p' → Changed t p reply p'
+moved_by : (t : Tables) (cells journal : List ℕ) (p p' : Position) (reply : List ℕ) (next : ℕ) (o : Outcome (List Write)) → ((ws : List Write) → o ≡ Ok ws → Looked t p reply ws)
+    → (stepped cells journal p next o).answer ≡ Ok p' → Changed t p reply p'
 unfolding stepped
-moved_by t cells journal p p' reply next (ok ws) looked e = record { writes = ws; looked = looked ws refl; used = ap (λ (a : StepAnswer). (position_of a).used) e }
-moved_by t cells journal p p' reply next (refuse number) looked e = let z : ◌≡◌ {A = ℕ} 0 1 = cc in absurd (omega arith)
+moved_by t cells journal p p' reply next (Ok ws) looked e = record { writes = ws; looked = looked ws refl; used = ap (λ (a : StepAnswer). (position_of a).used) e }
+moved_by t cells journal p p' reply next (Err number) looked e = let z : ◌≡◌ {A = ℕ} 0 1 = cc in absurd (omega arith)
 
-changed : (t : Tables) (memory journal : List ℕ) (p p' : Position) (reply : List ℕ) → (forward_tables t memory journal p reply).answer ≡ Moved p' → Changed t p reply p'
+changed : (t : Tables) (memory journal : List ℕ) (p p' : Position) (reply : List ℕ) → (forward_tables t memory journal p reply).answer ≡ Ok p' → Changed t p reply p'
 unfolding forward_tables with_tail
 changed t memory journal p p' reply e =
     let cells : List ℕ = take (cell_width * cell_count t.regions) memory in

@@ -1,23 +1,21 @@
 -- 01, "Bench examples": "These ten lines form the proved set, a joint theorem about the definitions". The declarations are `tables/specs/Bench.antt`.
-use Rattle.std.specs.Prelude.{ℕ, ◌-◌, ◌^◌, List, [], ◌∷◌, ◌++◌, ◌≡◌, refl}
+use Rattle.session.specs.Answer.{OpenAnswer}
+use Rattle.type_rules.specs.declared.error.ProgramError.TheVariants as P
+use Rattle.type_rules.specs.declared.error.TypeError.{TypeError}
+use Rattle.std.specs.Prelude.{ℕ, ◌-◌, ◌^◌, List, [], ◌∷◌, ◌++◌, ◌≡◌, refl, Result, Ok, Err}
 use Rattle.tables.specs.Bench.{a, n, o, r, q}
 use Rattle.tables.specs.Refusal.{at_end, journal_full, index_past_length, negative_shift_count, unfit_literal}
 use Rattle.words.specs.Kind.{bit, integer, octet, real, real_literal}
 use Rattle.type_rules.specs.Numbers.{imaginary, real_or_integral, first_spot, source_spot, node_spot}
 use Rattle.type_rules.specs.Judgement.{Judgement, undefined_memory_reference, data_type_mismatch, real_value_required, operator_operand_mismatch, verdict_at}
-use Rattle.type_rules.specs.declared.error.Verdict.{Verdict}
-use Rattle.type_rules.specs.declared.error.Verdict.TheVariants as T
 use Rattle.journal.specs.Position.{first_position}
-use Rattle.session.specs.declared.answer.OpenAnswer.{OpenAnswer}
-use Rattle.session.specs.declared.answer.OpenAnswer.TheVariants.{Opened, Error}
-use Rattle.session.specs.declared.answer.StepAnswer.TheVariants.{Moved, Refused}
 use Rattle.sequence.specs.Calls.{Call, forward, back, Answer, of_step}
 use Rattle.sequence.specs.BenchRun.{ADD_INTEGER, ADD_REAL, DIV, SHL, ASHR, MOVE, MOVE_REAL, EXCHANGE, LOAD, STORE, SET_PHASE, number, run}
 
 -- open's answer for a verdict of the type check, and where the rule of row 0 is not met
-abbrev answer_of : Verdict → OpenAnswer
-answer_of T.Accepted = Opened first_position
-answer_of (T.Error e) = Error e
+abbrev answer_of : Result (Unit {0}) TypeError → OpenAnswer
+answer_of (Ok _) = Ok first_position
+answer_of (Err e) = Err (P.Type e)
 
 abbrev failing : Judgement → OpenAnswer
 failing j = answer_of (verdict_at 0 j)
@@ -28,10 +26,10 @@ step = forward []
 
 -- its answers, with the position: steps not taken back, journal entries used. No row of these lines is a jump, so the row is the number of steps.
 abbrev moved : ℕ → ℕ → Answer
-moved done used = of_step (Moved (record { row = done; done = done; used = used }))
+moved done used = of_step (Ok (record { row = done; done = done; used = used }))
 
 abbrev refused : ℕ → ℕ → ℕ → Answer
-refused number done used = of_step (Refused number (record { row = done; done = done; used = used }))
+refused number done used = of_step (Err (number, record { row = done; done = done; used = used }))
 
 -- a[0], a[1], n[0] to n[2], o[0], r[0], r[1]: kind and word; n[0], o[0], r[0] and r[1] as given, 0 elsewhere
 abbrev cells : ℕ → ℕ → ℕ → ℕ → List ℕ
@@ -50,7 +48,7 @@ loading n₀ = MOVE n n₀ ++ (MOVE_REAL r 1 bits ++ LOAD r r n)
 pub record Bench : Type 0 where
   -- "Empty program passes; its first forward is 11."
   pub empty :
-      ((run [] [] 4 (step ∷ [])).opening ≡ Opened first_position)
+      ((run [] [] 4 (step ∷ [])).opening ≡ Ok first_position)
       × ((run [] [] 4 (step ∷ [])).steps ≡ refused at_end 0 0 ∷ [])
   -- "ADD a[0] 1.5 is error 2; ADD a[0] 1 is 4."
   pub add :
@@ -71,7 +69,7 @@ pub record Bench : Type 0 where
       × ((run [] (MOVE o 128 ++ SHL o (2 ^ 64 - 1)) 4 (step ∷ step ∷ [])).steps ≡ moved 1 2 ∷ refused negative_shift_count 1 2 ∷ [])
   -- "Imaginary 3CB0000000000000 (hexadecimal) passes, 3CB0000000000001 is error 3."
   pub imaginary_part :
-      ((run (number 0x3CB0000000000000) SET_PHASE 4 []).opening ≡ Opened first_position)
+      ((run (number 0x3CB0000000000000) SET_PHASE 4 []).opening ≡ Ok first_position)
       × ((run (number 0x3CB0000000000001) SET_PHASE 4 []).opening ≡ failing (real_value_required (node_spot 0) imaginary))
   -- "LOAD r[0] r n[0]: n[0] 1 works, 2 is 14."
   pub load :

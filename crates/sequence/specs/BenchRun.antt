@@ -1,4 +1,5 @@
 -- Programs on the bench's declarations, opened and run by a list of calls: what the ten bench lines are stated of.
+use Rattle.session.specs.Answer.{OpenAnswer}
 use Rattle.std.specs.Prelude.{ℕ, ◌*◌, List, [], ◌∷◌, length, replicate}
 use Rattle.std.specs.Float.Ieee.{of_bits, lt}
 use Rattle.words.specs.Kind.{width_of, fits_kind}
@@ -48,7 +49,6 @@ use Rattle.session.specs.Leaves.{with_tail}
 use Rattle.session_open.specs.Open.{no_other, call_look, calls_look, program_look, program_verdict, tables_verdict, open_verdict, open_cells, open_tables}
 use Rattle.session_forward.specs.Forward.{step_look, forward_look, stepped, forward_tables}
 use Rattle.session_back.specs.Back.{journal_look, back_look, taken_back, back_tables}
-use Rattle.session.specs.declared.answer.OpenAnswer.{OpenAnswer}
 use Rattle.session.specs.Session.{Session}
 use Rattle.sequence.specs.Calls.{Call, Answer, opened, answers, end}
 

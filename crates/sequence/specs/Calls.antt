@@ -1,4 +1,5 @@
 -- A list of forward and back calls on the lent buffers: each call gets the buffers and the position that the last one left.
+use Rattle.session.specs.Answer.{StepAnswer}
 use Rattle.std.specs.Prelude.{List, [], ◌∷◌, ℕ, length}
 use Rattle.tables.specs.Tables.{Tables}
 use Rattle.journal.specs.declared.position.Position.{Position}
@@ -6,7 +7,6 @@ use Rattle.journal.specs.Position.{first_position}
 use Rattle.session.specs.Answer as session
 use Rattle.session.specs.Leaves.{Leaves, leaves}
 use Rattle.session.specs.Session.{Session}
-use Rattle.session.specs.declared.answer.StepAnswer.{StepAnswer}
 use Rattle.session_open.specs.Open.{open_tables}
 use Rattle.session_forward.specs.Forward.{forward_tables}
 use Rattle.session_back.specs.Back.{back_tables}

@@ -1,6 +1,6 @@
 -- Demand 3: what is claimed of every list of calls after an accepted open. To be read without the proofs; Top.antt in proofs/ has the theorem.
 -- The quoted sentences are the demand's, where 01 is not named.
-use Rattle.std.specs.Prelude.{◌≡◌, true, false, List, [], ◌∷◌, ◌++◌, ℕ, ◌*◌, ◌^◌, ◌<◌, length, get_or, take, drop}
+use Rattle.std.specs.Prelude.{◌≡◌, true, false, List, [], ◌∷◌, ◌++◌, ℕ, ◌*◌, ◌^◌, ◌<◌, length, get_or, take, drop, Ok}
 use Rattle.tables.specs.Refusal.{no_rule}
 use Rattle.tables.specs.Tables.{Tables}
 use Rattle.tables.specs.Rows.{region_name, instruction_at}
@@ -12,7 +12,6 @@ use Rattle.journal.specs.Cells.{cell_width, held}
 use Rattle.journal.specs.Each.{Each}
 use Rattle.operands.specs.Typed.{Typed}
 use Rattle.machine.specs.Outcome.{is_call}
-use Rattle.session.specs.declared.answer.OpenAnswer.TheVariants.{Opened}
 use Rattle.session_open.specs.Open.{open_tables}
 use Rattle.soundness.specs.WriteSet.{HasCell, write_set}
 use Rattle.session.specs.Session.{Session}
@@ -79,5 +78,5 @@ module _ (t : Tables) (memory journal : List ℕ) (calls : List Call) where
 abbrev pub Demand3 : Type 0
 Demand3 =
     (t : Tables) (memory journal : List ℕ) → ((i : ℕ) → get_or t.instructions i 0 < 2 ^ 64)
-    → (open_tables t memory (length journal)).answer ≡ Opened first_position
+    → (open_tables t memory (length journal)).answer ≡ Ok first_position
     → (calls : List Call) → Faithful t memory journal calls

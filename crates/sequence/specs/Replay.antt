@@ -1,7 +1,8 @@
 -- 01's plain machine, a replay machine: its state is a history of replies, from which it works its cells and its position out anew.
-use Rattle.std.specs.Prelude.{List, [], ◌∷◌, ℕ, ◌+◌, length, ltb, leb}
+use Rattle.session.specs.Answer.{StepAnswer}
+use Rattle.std.specs.Prelude.{List, [], ◌∷◌, ℕ, ◌+◌, length, ltb, leb, Ok, Err}
 use Rattle.tables.specs.Refusal.{at_end, nothing_to_take_back, journal_full}
-use Rattle.tables.specs.Outcome.{Outcome, ok, refuse, ◌>>=◌, ◌>>◌, need}
+use Rattle.tables.specs.Outcome.{Outcome, ◌>>=◌, ◌>>◌, need}
 use Rattle.tables.specs.Tables.{Tables}
 use Rattle.tables.specs.Rows.{instruction_rows}
 use Rattle.journal.specs.declared.cells.Write.{Write}
@@ -11,8 +12,6 @@ use Rattle.operands.specs.Kinds.{zeros}
 use Rattle.machine.specs.Outcome.{outcome_at}
 use Rattle.control_flow.specs.Next.{next_row}
 use Rattle.session.specs.Prepare.{entries_of, prepared_of}
-use Rattle.session.specs.declared.answer.StepAnswer.{StepAnswer}
-use Rattle.session.specs.declared.answer.StepAnswer.TheVariants.{Moved, Refused}
 use Rattle.sequence.specs.Calls.{Call, forward, back, Answer, of_step}
 
 -- ---- what it is fed
@@ -49,18 +48,18 @@ pub record Place : Type 0 where
 
 -- a step's writes. A reply joins the history only where its step is not refused, so the second line is never reached.
 abbrev pub made : Outcome (List Write) → List Write
-made (ok ws) = ws
-made (refuse number) = []
+made (Ok ws) = ws
+made (Err number) = []
 
 -- "Back drops the last reply; with none it is 12."
 abbrev pub dropped : History → Outcome History
-dropped [] = refuse nothing_to_take_back
-dropped (reply ∷ h) = ok h
+dropped [] = Err nothing_to_take_back
+dropped (reply ∷ h) = Ok h
 
 -- "that number is the answer, the history kept"
 abbrev pub next_state : State → Outcome State → State
-next_state s (ok s') = s'
-next_state s (refuse number) = s
+next_state s (Ok s') = s'
+next_state s (Err number) = s
 
 module _ (M : Machine) where
   -- ---- after the steps of a history
@@ -121,22 +120,22 @@ module _ (M : Machine) where
     need (ltb (row_at s) (instruction_rows M.tables.instructions)) at_end
     ws ← outcome_at M.tables (cells_at s) (row_at s) reply
     need (leb (used_at s + (length ws + 1)) (entries_of M.journal_words)) journal_full
-    ok ws
+    Ok ws
 
   -- the state that a call leads to, or its refusal
   unfoldable pub replayed : Call → State → Outcome State
   replayed (forward reply) s = do
     ws ← replay_look s reply
-    ok (record { history = reply ∷ s.history })
+    Ok (record { history = reply ∷ s.history })
   replayed back s = do
     looks_first
     h ← dropped s.history
-    ok (record { history = h })
+    Ok (record { history = h })
 
   -- "If none refuses, its reply joins the history; else that number is the answer, the history kept." "Every answer gives the position."
   abbrev pub step_answer : State → Outcome State → StepAnswer
-  step_answer s (ok s') = Moved (position_at s')
-  step_answer s (refuse number) = Refused number (position_at s)
+  step_answer s (Ok s') = Ok (position_at s')
+  step_answer s (Err number) = Err (number, position_at s)
 
   abbrev pub replay_answer : Call → State → Answer
   replay_answer c s = of_step (step_answer s (replayed c s))

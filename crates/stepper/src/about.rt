@@ -1,7 +1,7 @@
 // About the current row: a CALL's resolved arguments and access sets, a frame's references and how many nodes its type check looked at, where a jump leads, what a CONVERT gives.
 use crate::explain::show_call;
 use crate::terminal::Terminal;
-use console::references::{WalkAnswer, memory_references};
+use console::references::memory_references;
 use labels::labels::label_row;
 use stepper_calls::access_row;
 use stepper_calls::looked::looked_line;
@@ -37,14 +37,14 @@ fn walk_on(terminal: &Terminal, walk: Walk, x: Instruction) -> Walk {
     let nodes = terminal.table(Table::Nodes);
     let line = walk.line;
     match memory_references(nodes, x.first_name, x.first_index, walk.place) {
-        WalkAnswer::Went(stepped) => walked(
+        Ok(stepped) => walked(
             walk,
             terminal.source(),
             &terminal.names,
             stepped,
             nodes.len(),
         ),
-        WalkAnswer::Refused(number) => {
+        Err(number) => {
             refused(number, line.view);
             Walk {
                 line,

@@ -6,10 +6,7 @@ use stepper_told::errors::RESOLVE_WORDS;
 use stepper_told::refused::explain_tables;
 use stepper_told::resolved::show_answer;
 use stepper_words::heading::Table;
-use tables::refusal::{
-    ARGUMENT_COUNT, ARGUMENT_ERRORS, CONDITION_NOT_BIT, EXTERN_NOT_FOUND, NAME_TWICE, TABLE_SHAPE,
-    UNFIT_CONVERSION, UNFIT_LABELS, WORD_NOT_ALLOWED,
-};
+use tables::refusal::Refusal;
 use tables::rows::INSTRUCTION_WIDTH;
 
 // Resolves a row that is a CALL, into `rows`, and shows what came; how many arguments are resolved.
@@ -33,20 +30,20 @@ fn bad_call(terminal: &Terminal) -> usize {
 // Where open refused the tables, a label, a condition, a conversion or a CALL, with its argument errors where it has some.
 pub fn explain_open(terminal: &Terminal, refusal: u64) {
     match refusal {
-        TABLE_SHAPE
-        | WORD_NOT_ALLOWED
-        | NAME_TWICE
-        | UNFIT_LABELS
-        | CONDITION_NOT_BIT
-        | UNFIT_CONVERSION => explain_tables(
+        Refusal::TableShape
+        | Refusal::WordNotAllowed
+        | Refusal::NameTwice
+        | Refusal::UnfitLabels
+        | Refusal::ConditionNotBit
+        | Refusal::UnfitConversion => explain_tables(
             terminal.source(),
             &terminal.names,
             &terminal.tables,
             terminal.desk,
             refusal,
         ),
-        EXTERN_NOT_FOUND | ARGUMENT_COUNT => terminal.row_line(bad_call(terminal)),
-        ARGUMENT_ERRORS => {
+        Refusal::ExternNotFound | Refusal::ArgumentCount => terminal.row_line(bad_call(terminal)),
+        Refusal::ArgumentErrors => {
             let mut rows = [0; RESOLVE_WORDS];
             show_call(terminal, bad_call(terminal), &mut rows);
         }

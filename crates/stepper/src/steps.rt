@@ -1,4 +1,5 @@
 // What the keys do to the session: open, and forward with a reply.
+use type_rules::error::ProgramError;
 use crate::explain::{explain_open, show_call};
 use crate::terminal::Terminal;
 use journal::position::Position;
@@ -16,23 +17,23 @@ use stepper_lines::refusal::refused;
 use stepper_told::errors::RESOLVE_WORDS;
 use stepper_told::reply::{REPLY_WORDS, Reply, ask_reply};
 use stepper_words::heading::Table;
-use tables::refusal::TYPE_ERROR;
+use tables::refusal::Refusal;
 
 // What open answered, in words.
 fn opened(terminal: &Terminal, answer: OpenAnswer) -> State {
     let desk = terminal.desk;
     match answer {
-        OpenAnswer::Opened(_) => State::Opened,
-        OpenAnswer::Refused(number) => {
+        Ok(_) => State::Opened,
+        Err(ProgramError::Refused(number)) => {
             refused(number, desk.view);
             explain_open(terminal, number);
             State::Refused(number)
         }
-        OpenAnswer::Error(error) => {
-            refused(TYPE_ERROR, desk.view);
+        Err(ProgramError::Type(error)) => {
+            refused(Refusal::TypeError, desk.view);
             terminal.row_line(error.row as usize);
             error_lines(&terminal.tables, desk.lengths, error);
-            State::Refused(TYPE_ERROR)
+            State::Refused(Refusal::TypeError)
         }
     }
 }

@@ -1,6 +1,5 @@
 // The first CALL that does not resolve.
 use crate::resolve_row;
-use extern_call::rows::ResolveAnswer;
 use stepper_desk::current::is_call;
 use stepper_tables::file::{TABLE_WORDS, TABLES};
 use stepper_tables::held::table;
@@ -11,7 +10,7 @@ fn resolves(tables: &[u64; TABLE_WORDS], lengths: [usize; TABLES], row: usize) -
     let mut rows = [0; RESOLVE_WORDS];
     matches!(
         resolve_row(tables, lengths, row, &mut rows),
-        ResolveAnswer::Resolved(_)
+        Ok(_)
     )
 }
 

@@ -1,8 +1,8 @@
 // How long a journal is enough for the desk's program.
+use type_rules::error::ProgramError;
 use crate::length_tables;
 use journal::entries::ENTRY_LIMIT;
 use labels::labels::is_jump;
-use session_length::length::LengthAnswer;
 use stepper_desk::state::{Desk, Enough};
 use stepper_tables::held::table;
 use stepper_words::heading::Table;
@@ -14,8 +14,8 @@ fn has_jump(instructions: &[u64]) -> bool {
 }
 
 // The rows' sum is enough where none of them is a jump.
-fn enough(answer: LengthAnswer, jumps: bool) -> Enough {
-    let LengthAnswer::Entries(entries) = answer else {
+fn enough(answer: Result<usize, ProgramError>, jumps: bool) -> Enough {
+    let Ok(entries) = answer else {
         return Enough::Untold;
     };
     if jumps {

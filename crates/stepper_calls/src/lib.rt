@@ -7,24 +7,24 @@ pub mod looked;
 pub mod step;
 pub mod verdict;
 
-use access_sets::access::AccessAnswer;
+use extern_call::rows::ResolveError;
+use type_rules::error::ProgramError;
 use console::access::access;
-use console::check::{CheckAnswer, check};
-use console::frame::{FrameAnswer, frame};
+use console::check::check;
+use console::frame::{FrameError, frame};
 use console::resolve::resolve;
 use console_session::back::back;
 use console_session::forward::forward;
 use console_session::open::open;
 use console_session::run::run;
-use extern_call::rows::ResolveAnswer;
 use journal::position::Position;
 use session::answer::{OpenAnswer, RunAnswer, StepAnswer};
-use session_length::length::{LengthAnswer, journal_length};
+use session_length::length::journal_length;
 use stepper_tables::file::TABLES;
 use stepper_tables::held::table;
 use stepper_words::heading::Table;
 
-pub fn check_tables(tables: &[u64], lengths: [usize; TABLES]) -> CheckAnswer {
+pub fn check_tables(tables: &[u64], lengths: [usize; TABLES]) -> Result<(), ProgramError> {
     check(
         table(tables, Table::Regions, lengths),
         table(tables, Table::Externs, lengths),
@@ -40,7 +40,7 @@ pub fn resolve_row(
     lengths: [usize; TABLES],
     row: usize,
     rows: &mut [u64],
-) -> ResolveAnswer {
+) -> Result<usize, ResolveError> {
     resolve(
         table(tables, Table::Regions, lengths),
         table(tables, Table::Externs, lengths),
@@ -59,7 +59,7 @@ pub fn access_row(
     row: usize,
     reads: &mut [u64],
     writes: &mut [u64],
-) -> AccessAnswer {
+) -> Result<(usize, usize), Refusal> {
     access(
         table(tables, Table::Regions, lengths),
         table(tables, Table::Externs, lengths),
@@ -73,7 +73,7 @@ pub fn access_row(
     )
 }
 
-pub fn frame_row(tables: &[u64], lengths: [usize; TABLES], row: usize) -> FrameAnswer {
+pub fn frame_row(tables: &[u64], lengths: [usize; TABLES], row: usize) -> Result<u64, FrameError> {
     frame(
         table(tables, Table::Regions, lengths),
         table(tables, Table::Externs, lengths),
@@ -85,7 +85,7 @@ pub fn frame_row(tables: &[u64], lengths: [usize; TABLES], row: usize) -> FrameA
     )
 }
 
-pub fn length_tables(tables: &[u64], lengths: [usize; TABLES]) -> LengthAnswer {
+pub fn length_tables(tables: &[u64], lengths: [usize; TABLES]) -> Result<usize, ProgramError> {
     journal_length(
         table(tables, Table::Regions, lengths),
         table(tables, Table::Externs, lengths),

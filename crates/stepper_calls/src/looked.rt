@@ -1,6 +1,6 @@
 // How many nodes of a frame's expression the type check looked at.
+use console::frame::FrameError;
 use crate::frame_row;
-use console::frame::FrameAnswer;
 use stepper_desk::current::{Current, row_at};
 use stepper_lines::print::{counted, number, text};
 use stepper_tables::file::TABLES;
@@ -22,7 +22,7 @@ pub fn looked_line(tables: &[u64], lengths: [usize; TABLES], row: usize) {
         return;
     };
     match frame_row(tables, lengths, row) {
-        FrameAnswer::Accepted(count) | FrameAnswer::Error(_, count) => looked(count, x.first_index),
-        FrameAnswer::Refused(_) => {}
+        Ok(count) | Err(FrameError::Type(_, count)) => looked(count, x.first_index),
+        Err(FrameError::Refused(_)) => {}
     }
 }

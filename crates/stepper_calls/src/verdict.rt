@@ -1,14 +1,13 @@
 // The verdict of the type check, in words.
 use crate::check_tables;
 use crate::looked::looked_line;
-use console::check::CheckAnswer;
 use stepper_desk::state::Desk;
 use stepper_lines::print::text;
 use stepper_lines::refusal::refused;
 use stepper_tables::file::TABLES;
 use stepper_told::errors::type_error;
-use tables::refusal::TYPE_ERROR;
-use type_rules::error::TypeError;
+use tables::refusal::Refusal;
+use type_rules::error::{ProgramError, TypeError};
 
 // A type error; of one in a frame also how many nodes were looked at.
 pub fn error_lines(tables: &[u64], lengths: [usize; TABLES], error: TypeError) {
@@ -20,10 +19,10 @@ pub fn check_key(tables: &[u64], desk: Desk) {
     let lengths = desk.lengths;
     let answer = check_tables(tables, lengths);
     match answer {
-        CheckAnswer::Accepted => text(b"accepted by the type check\n"),
-        CheckAnswer::Refused(number) => refused(number, desk.view),
-        CheckAnswer::Error(error) => {
-            refused(TYPE_ERROR, desk.view);
+        Ok(()) => text(b"accepted by the type check\n"),
+        Err(ProgramError::Refused(number)) => refused(number, desk.view),
+        Err(ProgramError::Type(error)) => {
+            refused(Refusal::TypeError, desk.view);
             error_lines(tables, lengths, error)
         }
     }

@@ -16,13 +16,13 @@ use stepper_tables::held::table;
 use stepper_tables::row::Outcome;
 use stepper_words::heading::Table;
 use stepper_words::names::NAME_WORDS;
-use tables::cells::{CELL_LIMIT, Cells, cell_count};
+use tables::cells::{CELL_LIMIT, cell_count};
 
 // The cells that the regions ask for, at most the limit.
 fn cells_of(regions: &[u64]) -> usize
     ensures { result ≤ 4096 }
 {
-    let Cells::Count(cells) = cell_count(regions) else {
+    let Ok(cells) = cell_count(regions) else {
         return CELL_LIMIT;
     };
     cells

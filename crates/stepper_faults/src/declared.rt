@@ -1,9 +1,9 @@
 // The kind that a name is declared with.
-use tables::lookup::{Found, lookup_region};
+use tables::lookup::lookup_region;
 use tables::rows::region_at;
 
 pub fn kind_of(regions: &[u64], name: u64) -> Option<u64> {
-    let Found::At(r) = lookup_region(regions, name) else {
+    let Some(r) = lookup_region(regions, name) else {
         return None;
     };
     Some(region_at(regions, r).kind)

@@ -5,9 +5,7 @@ use crate::name::find_name;
 use crate::program::Program;
 use crate::shape::find_shape;
 use crate::word::find_word;
-use tables::refusal::{
-    CONDITION_NOT_BIT, NAME_TWICE, TABLE_SHAPE, UNFIT_CONVERSION, UNFIT_LABELS, WORD_NOT_ALLOWED,
-};
+use tables::refusal::Refusal;
 
 pub fn find(
     refusal: u64,
@@ -27,12 +25,12 @@ pub fn find(
         instructions,
     };
     let found = match refusal {
-        TABLE_SHAPE => find_shape(program),
-        WORD_NOT_ALLOWED => find_word(program),
-        NAME_TWICE => find_name(program),
-        UNFIT_LABELS => find_label(instructions),
-        CONDITION_NOT_BIT => find_condition(regions, instructions),
-        UNFIT_CONVERSION => find_conversion(regions, instructions),
+        Refusal::TableShape => find_shape(program),
+        Refusal::WordNotAllowed => find_word(program),
+        Refusal::NameTwice => find_name(program),
+        Refusal::UnfitLabels => find_label(instructions),
+        Refusal::ConditionNotBit => find_condition(regions, instructions),
+        Refusal::UnfitConversion => find_conversion(regions, instructions),
         _ => None,
     };
     found.unwrap_or(Where::Nowhere)

@@ -2,14 +2,14 @@
 use crate::fault::Where;
 use crate::program::Program;
 use stepper_words::heading::Table;
-use tables::lookup::{Found, lookup_extern, lookup_region};
+use tables::lookup::{lookup_extern, lookup_region};
 
 // The first row with one before it of its name, by what the library finds under a name.
-fn find_in<F: Fn(u64) -> Found>(table: Table, words: &[u64], look_up: F) -> Option<Where>
+fn find_in<F: Fn(u64) -> Option<usize>>(table: Table, words: &[u64], look_up: F) -> Option<Where>
     requires { F.IsAlwaysCallable look_up }
 {
     for (row, name) in words.iter().step_by(table.width()).enumerate() {
-        if let Found::At(earlier) = look_up(*name)
+        if let Some(earlier) = look_up(*name)
             && earlier < row
         {
             return Some(Where::SameName(table, *name, earlier, row));

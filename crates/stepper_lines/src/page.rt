@@ -2,11 +2,7 @@
 use crate::print::{line, number, text};
 use crate::refusal::{cause, mender};
 use crate::type_error;
-use tables::refusal::{
-    ARGUMENT_ERRORS, CONDITION_NOT_BIT, FOREIGN_POSITION, JOURNAL_FULL, NAME_TWICE,
-    OUTSIDE_INTEGER, TABLE_SHAPE, TYPE_ERROR, UNFIT_CONVERSION, UNFIT_LABELS, UNFIT_LITERAL,
-    WORD_NOT_ALLOWED,
-};
+use tables::refusal::Refusal;
 
 // A line for each number; there is no refusal 0.
 fn calls(refusal: u64) {
@@ -59,35 +55,35 @@ fn type_errors() {
 // Each kind of place, of type error and of argument error has an example of its own, each cause of 19 to 24, a frame's left operand, and a journal that is long enough.
 fn more(refusal: u64) {
     match refusal {
-        TABLE_SHAPE => text(b"- A table over its limit: `examples/refusal-1-limit.tables`\n"),
-        WORD_NOT_ALLOWED => text(
+        Refusal::TableShape => text(b"- A table over its limit: `examples/refusal-1-limit.tables`\n"),
+        Refusal::WordNotAllowed => text(
             b"- An unused word that is not 0: `examples/refusal-2-unused.tables`; a range outside its table: `-range.tables`; not exactly one tree: `-tree.tables`\n",
         ),
-        NAME_TWICE => text(b"- Two externs: `examples/refusal-3-externs.tables`\n"),
-        TYPE_ERROR => type_errors(),
-        ARGUMENT_ERRORS => text(
+        Refusal::NameTwice => text(b"- Two externs: `examples/refusal-3-externs.tables`\n"),
+        Refusal::TypeError => type_errors(),
+        Refusal::ArgumentErrors => text(
             b"- Argument error 1, not declared; 2, another vector; 3, another kind of scalar; 4, no vector; 5, an immediate for the return; 6, an immediate for a mutable parameter: `examples/argument-error-1.tables` to `-6.tables`\n",
         ),
-        JOURNAL_FULL => text(
+        Refusal::JournalFull => text(
             b"- With no foreign writer at work it does not come where no row is a jump and the journal is as long as journal_length says: `examples/journal-most.tables`, the longest that there is. Where that is more than 2,048 entries no journal is sure to be long enough: `examples/journal-long.tables`\n\
             - Nor is any where a row is a jump: a loop takes any number of steps, of at most 65 entries each: `examples/loop-endless.tables`\n",
         ),
-        FOREIGN_POSITION => text(
+        Refusal::ForeignPosition => text(
             b"- More steps than entries used: `examples/refusal-19-steps.tables`; a step's last entry with a row that is absent: `-left.tables`\n",
         ),
-        UNFIT_LABELS => text(
+        Refusal::UnfitLabels => text(
             b"- A jump to a label on no row: `examples/refusal-20-target.tables`\n",
         ),
-        CONDITION_NOT_BIT => text(
+        Refusal::ConditionNotBit => text(
             b"- A condition that is not declared: `examples/refusal-21-undeclared.tables`\n",
         ),
-        UNFIT_CONVERSION => text(
+        Refusal::UnfitConversion => text(
             b"- A destination that is not declared: `examples/refusal-22-undeclared.tables`; a source: `-undeclared-source.tables`\n",
         ),
-        OUTSIDE_INTEGER => text(
+        Refusal::OutsideInteger => text(
             b"- A NaN: `examples/refusal-23-nan.tables`; an infinity: `-infinity.tables`\n",
         ),
-        UNFIT_LITERAL => text(
+        Refusal::UnfitLiteral => text(
             b"- A STORE into a BIT: `examples/refusal-24-bit.tables`; a negative literal: `-negative.tables`\n",
         ),
         _ => {}
@@ -110,7 +106,7 @@ fn refusal_entry(refusal: u64) {
 }
 
 fn refusal_entries() {
-    for refusal in TABLE_SHAPE..=UNFIT_LITERAL {
+    for refusal in Refusal::TableShape..=Refusal::UnfitLiteral {
         refusal_entry(refusal);
     }
 }

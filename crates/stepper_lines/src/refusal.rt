@@ -1,10 +1,7 @@
 // Refusals by number and cause.
 use crate::print::{byte, line, number, style, text};
 use crate::view::View;
-use tables::refusal::{
-    AT_END, BUFFER_SIZE, FOREIGN_POSITION, INDEX_PAST_LENGTH, JOURNAL_FULL, NEGATIVE_SHIFT_COUNT,
-    NO_RULE, OUTSIDE_INTEGER, TABLE_SHAPE, UNFIT_REPLY,
-};
+use tables::refusal::Refusal;
 
 // A line for each number; there is no refusal 0.
 pub fn cause(refusal: u64) {
@@ -41,11 +38,11 @@ pub fn cause(refusal: u64) {
 // Who can mend it.
 pub fn mender(refusal: u64) -> &'static [u8] {
     match refusal {
-        TABLE_SHAPE..=BUFFER_SIZE => b"the loader",
-        AT_END..=JOURNAL_FULL => b"the student",
-        INDEX_PAST_LENGTH..=NEGATIVE_SHIFT_COUNT | OUTSIDE_INTEGER => b"the running program",
-        UNFIT_REPLY => b"the extern routine",
-        NO_RULE..=FOREIGN_POSITION => b"the foreign writer",
+        Refusal::TableShape..=Refusal::BufferSize => b"the loader",
+        Refusal::AtEnd..=Refusal::JournalFull => b"the student",
+        Refusal::IndexPastLength..=Refusal::NegativeShiftCount | Refusal::OutsideInteger => b"the running program",
+        Refusal::UnfitReply => b"the extern routine",
+        Refusal::NoRule..=Refusal::ForeignPosition => b"the foreign writer",
         _ => b"the program's author",
     }
 }

@@ -1,7 +1,7 @@
 // Cells by region and index, where the library lays them out.
 use journal::cells::CELL_WIDTH;
 use operands::address::region_origin;
-use tables::cells::{Cells, cell_count};
+use tables::cells::cell_count;
 use tables::rows::{REGION_WIDTH, region_at};
 
 #[derive(Clone, Copy, PartialEq, Eq)]
@@ -23,7 +23,7 @@ impl Span {
 
 // Where a region's cells lie; none, where the regions have too many.
 pub fn cells_of(regions: &[u64], r: usize) -> Span {
-    let Cells::Count(_) = cell_count(regions) else {
+    let Ok(_) = cell_count(regions) else {
         return Span::EMPTY;
     };
     if r < regions.len() / REGION_WIDTH {

@@ -1,6 +1,5 @@
 // Lines of names: a CALL's access sets, a frame's references.
-use access_sets::access::AccessAnswer;
-use memory::{Next, Stepped};
+use memory::Stepped;
 use stepper_lines::line::Line;
 use stepper_lines::refusal::refused;
 use stepper_lines::view::View;
@@ -39,15 +38,15 @@ pub fn show_sets(
     view: View,
     reads: &[u64; SET_WORDS],
     writes: &[u64; SET_WORDS],
-    answer: AccessAnswer,
+    answer: Result<(usize, usize), Refusal>,
 ) {
     match answer {
-        AccessAnswer::Sets(read, written) => {
+        Ok((read, written)) => {
             let line = Line::new(view);
             set_line(line.text(b"  reads"), source, names, reads, read);
             set_line(line.text(b"  writes"), source, names, writes, written)
         }
-        AccessAnswer::Refused(number) => refused(number, view),
+        Err(number) => refused(number, view),
     }
 }
 
@@ -68,7 +67,7 @@ pub fn walked(
 ) -> Walk {
     let line = walk.line;
     match stepped.found {
-        Next::Reference(found) => {
+        Some(found) => {
             let told = line
                 .with(b' ')
                 .reference(source, names, found.name, found.index);
@@ -77,6 +76,6 @@ pub fn walked(
                 place: stepped.place,
             }
         }
-        Next::End => Walk { line, place: end },
+        None => Walk { line, place: end },
     }
 }

@@ -37,8 +37,8 @@ pub fn explain_tables(
 // The position that a step leaves, and its refusal in words.
 pub fn stepped(answer: StepAnswer, view: View) -> Position {
     match answer {
-        StepAnswer::Moved(position) => position,
-        StepAnswer::Refused(refusal, position) => {
+        Ok(position) => position,
+        Err((refusal, position)) => {
             refused(refusal, view);
             position
         }
@@ -67,14 +67,14 @@ fn stopped(stop: Stop, row: usize, view: View) {
 // The position that a run leaves; its steps and why no more, or its refusal in words.
 pub fn ran(answer: RunAnswer, view: View) -> Position {
     match answer {
-        RunAnswer::Ran(steps, stop, position) => {
+        Ok((steps, stop, position)) => {
             text(b"ran ");
             counted(steps, b"step");
             text(b": ");
             stopped(stop, position.row, view);
             position
         }
-        RunAnswer::Refused(refusal, position) => {
+        Err((refusal, position)) => {
             refused(refusal, view);
             position
         }

@@ -1,6 +1,6 @@
 // A CALL's resolved arguments, or why it does not resolve.
 use crate::errors::{RESOLVE_WORDS, show_errors};
-use extern_call::rows::{RESOLVED_WIDTH, ResolveAnswer};
+use extern_call::rows::{ResolveError, RESOLVED_WIDTH};
 use stepper_lines::line::{Line, left_out, shown};
 use stepper_lines::quil::complex;
 use stepper_lines::refusal::refused;
@@ -83,18 +83,18 @@ pub fn show_answer(
     names: &[u64; NAME_WORDS],
     view: View,
     rows: &[u64; RESOLVE_WORDS],
-    answer: ResolveAnswer,
+    answer: Result<usize, ResolveError>,
 ) -> usize {
     match answer {
-        ResolveAnswer::Resolved(count) => {
+        Ok(count) => {
             show_resolved(source, names, view, rows, count);
             count
         }
-        ResolveAnswer::Errors(count) => {
+        Err(ResolveError::Errors(count)) => {
             show_errors(source, names, view, rows, count);
             0
         }
-        ResolveAnswer::Refused(number) => {
+        Err(ResolveError::Refused(number)) => {
             refused(number, view);
             0
         }

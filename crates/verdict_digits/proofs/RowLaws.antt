@@ -1,5 +1,6 @@
 -- Each row with which the program asks is one that the loader allows, and is at its place of the chart: one test computes it for all. Assumes nothing.
-use Rattle.std.proofs.Common.{ℕ, zero, suc, ◌+◌, ◌/◌, ◌%◌, ◌<◌, ◌≤◌, Bool, true, false, cond, ◌&&◌, [], Option, Some, None, eqb, ltb, leb, get_or, ◌≡◌, refl, sym, ap, ◌∙◌, arith}
+use Rattle.type_rules.specs.declared.error.TypeError.{TypeError}
+use Rattle.std.proofs.Common.{ℕ, zero, suc, ◌+◌, ◌/◌, ◌%◌, ◌<◌, ◌≤◌, Bool, true, false, cond, ◌&&◌, [], Option, Some, None, eqb, ltb, leb, get_or, ◌≡◌, refl, sym, ap, ◌∙◌, arith, Result}
 use Rattle.std.specs.Option.{MatchOption, unwrap_or}
 use native.Mathlib.Decide.{ℕ_discrete}
 use native.Mathlib.Nat.{div-le_self, mod-le, lt_of_le_of_lt}
@@ -12,7 +13,6 @@ use Rattle.tables.proofs.FirstLaws.{every-row}
 use Rattle.tables.proofs.Passed.{both}
 use Rattle.word_rules.specs.Instruction as words
 use Rattle.type_rules.specs.Codes.{kind_code, code_of, operand_code, source_code}
-use Rattle.type_rules.specs.declared.error.Verdict.{Verdict}
 use Rattle.type_check.specs.Check.{verdict_of}
 use Rattle.verdict_table.specs.Forms.{form_of}
 use Rattle.verdict_table.specs.Chart.{kind_of, form_count, chart}
@@ -127,7 +127,7 @@ module _ (k : ℕ) (h : k < form_count) where
       }
 
   -- the check's verdict on it is the chart's entry
-  pub worked_out : {v : Verdict} {x : Instruction} → x ≡ row_at k → v ≡ verdict_of regions [] 0 x → kind_of v ≡ get_or chart k 0
+  pub worked_out : {v : Result (Unit {0}) TypeError} {x : Instruction} → x ≡ row_at k → v ≡ verdict_of regions [] 0 x → kind_of v ≡ get_or chart k 0
   worked_out r e =
       ap kind_of (e ∙ ap (verdict_of regions [] 0) r)
       ∙ (rows regions [] 0 (row_at k) charted).verdict

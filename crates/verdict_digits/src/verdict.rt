@@ -5,7 +5,6 @@ ghost use Rattle.verdict_table.specs.Chart.{form_count, chart};
 use crate::regions::REGIONS;
 use crate::row::row_at;
 use type_check::program::check_row;
-use type_rules::error::Verdict;
 
 // 0 for accepted, or the type error's kind: the table's entry at this place, without a look at the table.
 pub fn verdict(place: usize) -> u64
@@ -13,7 +12,7 @@ pub fn verdict(place: usize) -> u64
     ensures { result ≡ get_or chart place 0 }
 {
     match check_row(&REGIONS, &[], 0, row_at(place)) {
-        Verdict::Accepted => 0,
-        Verdict::Error(error) => error.kind,
+        Ok(()) => 0,
+        Err(error) => error.kind,
     }
 }

@@ -10,14 +10,14 @@ use Rattle.verdict_digits.proofs.verdict.verdict.Goals as goal
 pub check_row-requires : goal.check_row-requires
 check_row-requires c = record { inside = λ e. let h = (charted c.args.place (search rules)).of_family in absurd (omega (arith, e, h, ap (λ (x : Instruction). x.family) c.row_at.ensures)) }
 
-pub returns-in-Accepted : goal.returns-in-Accepted
+pub returns-in-Ok : goal.returns-in-Ok
 unfolding regions
-returns-in-Accepted c =
-    sym (ap kind_of c.in-Accepted.is)
+returns-in-Ok c =
+    sym (ap kind_of c.in-Ok.is)
     ∙ worked_out c.args.place (search rules) c.row_at.ensures c.check_row.ensures
 
-pub returns-in-Error : goal.returns-in-Error
+pub returns-in-Err : goal.returns-in-Err
 unfolding regions
-returns-in-Error c =
-    sym (ap kind_of c.in-Error.is)
+returns-in-Err c =
+    sym (ap kind_of c.in-Err.is)
     ∙ worked_out c.args.place (search rules) c.row_at.ensures c.check_row.ensures
