@@ -22,7 +22,7 @@ pub fn back(
 ) -> StepAnswer
     ensures { backed result memory.new ≡ back_tables (tables_of regions.now externs.now parameters.now nodes.now arguments.now instructions.now) memory.old journal.now position }
 {
-    let prepared = prepare(
+    match prepare(
         regions,
         externs,
         parameters,
@@ -31,9 +31,8 @@ pub fn back(
         instructions,
         memory.len(),
         journal.len(),
-    );
-    match prepared {
-        Err(number) => Err((number, position)),
+    ) {
+        Err(refusal) => Err((refusal, position)),
         Ok(n) => take_back(
             instructions,
             &mut memory[..CELL_WIDTH * n],

@@ -23,7 +23,7 @@ pub fn forward(
 ) -> StepAnswer
     ensures { left result memory.new journal.new ≡ forward_tables (tables_of regions.now externs.now parameters.now nodes.now arguments.now instructions.now) memory.old journal.old position reply.now }
 {
-    let prepared = prepare(
+    match prepare(
         regions,
         externs,
         parameters,
@@ -32,9 +32,8 @@ pub fn forward(
         instructions,
         memory.len(),
         journal.len(),
-    );
-    match prepared {
-        Err(number) => Err((number, position)),
+    ) {
+        Err(refusal) => Err((refusal, position)),
         Ok(n) => step_cells(
             regions,
             externs,

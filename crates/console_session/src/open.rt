@@ -3,7 +3,6 @@ ghost use Rattle.std.specs.Prelude.{◌≡◌, length};
 ghost use Rattle.tables.specs.Tables.{tables_of};
 ghost use Rattle.session_open.specs.Open.{opening, open_tables};
 
-use type_rules::error::ProgramError;
 use journal::cells::CELL_WIDTH;
 use session::answer::OpenAnswer;
 use session::prepare::prepare;
@@ -22,7 +21,7 @@ pub fn open(
 ) -> OpenAnswer
     ensures { opening result memory.new ≡ open_tables (tables_of regions.now externs.now parameters.now nodes.now arguments.now instructions.now) memory.old (length journal.now) }
 {
-    let prepared = prepare(
+    let cells = prepare(
         regions,
         externs,
         parameters,
@@ -31,17 +30,14 @@ pub fn open(
         instructions,
         memory.len(),
         journal.len(),
-    );
-    match prepared {
-        Err(number) => Err(ProgramError::Refused(number)),
-        Ok(cells) => open_cells(
-            regions,
-            externs,
-            parameters,
-            nodes,
-            arguments,
-            instructions,
-            &mut memory[..CELL_WIDTH * cells],
-        ),
-    }
+    )?;
+    open_cells(
+        regions,
+        externs,
+        parameters,
+        nodes,
+        arguments,
+        instructions,
+        &mut memory[..CELL_WIDTH * cells],
+    )
 }

@@ -23,7 +23,7 @@ pub fn run(
 ) -> RunAnswer
     ensures { running result memory.new journal.new ≡ run_tables (tables_of regions.now externs.now parameters.now nodes.now arguments.now instructions.now) memory.old journal.old position allowance }
 {
-    let prepared = prepare(
+    match prepare(
         regions,
         externs,
         parameters,
@@ -32,9 +32,8 @@ pub fn run(
         instructions,
         memory.len(),
         journal.len(),
-    );
-    match prepared {
-        Err(number) => Err((number, position)),
+    ) {
+        Err(refusal) => Err((refusal, position)),
         Ok(n) => run_cells(
             regions,
             externs,

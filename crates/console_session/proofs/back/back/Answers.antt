@@ -1,47 +1,20 @@
-use Rattle.tables.specs.Outcome.{Outcome}
-use Rattle.std.proofs.Common.{ℕ}
+use Rattle.std.proofs.Common.{sym, arith, length-take-le}
 use Rattle.tables.proofs.Passed.{seen}
-use Prim.Native.Nat.{◌*◌}
-use mathlib.Core.Path.{◌≡◌, sym}
-use native.Mathlib.Omega.{arith}
-use lib.ListN.{length}
-use lib.Seq.{length-take-le}
-use Rattle.tables.specs.Tables.{Tables, tables_of}
-use Rattle.journal.specs.Cells.{cell_width}
-use Rattle.session.specs.Prepare.{prepared_of}
-use Rattle.session.proofs.Prepared.{Facts, prepared}
+use Rattle.session.proofs.Prepared.{prepared, ready}
 use Rattle.session_back.proofs.BackLaws.{back_unprepared, back_on}
 use Rattle.console_session.proofs.back.back.Goals as goal
 
 pub overflow_mul-n : goal.overflow_mul-n
-overflow_mul-n c =
-    let tables_at : Tables = tables_of c.args.regions.now c.args.externs.now c.args.parameters.now c.args.nodes.now c.args.arguments.now c.args.instructions.now in
-    let looks : (r : Outcome ℕ) → c.prepare-prepared.result ≡ r → prepared_of tables_at (length c.args.memory.now) (length c.args.journal.now) ≡ r = λ r e. seen c.prepare-prepared.ensures e in
-    let facts : Facts tables_at (length c.args.memory.now) (length c.args.journal.now) c.in-Ok.n = prepared _ _ _ (looks _ c.in-Ok.is) in
-    omega (arith, facts.few)
+overflow_mul-n c = let facts = prepared _ _ _ (seen c.prepare.ensures c.in-Ok.is) in omega (arith, facts.few)
 
 pub slice_bounds-take_back-end : goal.slice_bounds-take_back-end
-slice_bounds-take_back-end c =
-    let tables_at : Tables = tables_of c.args.regions.now c.args.externs.now c.args.parameters.now c.args.nodes.now c.args.arguments.now c.args.instructions.now in
-    let looks : (r : Outcome ℕ) → c.prepare-prepared.result ≡ r → prepared_of tables_at (length c.args.memory.now) (length c.args.journal.now) ≡ r = λ r e. seen c.prepare-prepared.ensures e in
-    let facts : Facts tables_at (length c.args.memory.now) (length c.args.journal.now) c.in-Ok.n = prepared _ _ _ (looks _ c.in-Ok.is) in
-    facts.room
+slice_bounds-take_back-end c = (prepared _ _ _ (seen c.prepare.ensures c.in-Ok.is)).room
 
 pub slice_bounds-take_back-end-in-Ok : goal.slice_bounds-take_back-end-in-Ok
-slice_bounds-take_back-end-in-Ok c =
-    let tables_at : Tables = tables_of c.args.regions.now c.args.externs.now c.args.parameters.now c.args.nodes.now c.args.arguments.now c.args.instructions.now in
-    let looks : (r : Outcome ℕ) → c.prepare-prepared.result ≡ r → prepared_of tables_at (length c.args.memory.now) (length c.args.journal.now) ≡ r = λ r e. seen c.prepare-prepared.ensures e in
-    let facts : Facts tables_at (length c.args.memory.now) (length c.args.journal.now) c.in-Ok.n = prepared _ _ _ (looks _ c.in-Ok.is) in
-    sym (length-take-le (cell_width * c.in-Ok.n) c.args.memory.now facts.room)
+slice_bounds-take_back-end-in-Ok c = sym (length-take-le _ c.args.memory.now (prepared _ _ _ (seen c.prepare.ensures c.in-Ok.is)).room)
 
 pub returns-in-Err : goal.returns-in-Err
-returns-in-Err c =
-    let tables_at : Tables = tables_of c.args.regions.now c.args.externs.now c.args.parameters.now c.args.nodes.now c.args.arguments.now c.args.instructions.now in
-    let looks : (r : Outcome ℕ) → c.prepare-prepared.result ≡ r → prepared_of tables_at (length c.args.memory.now) (length c.args.journal.now) ≡ r = λ r e. seen c.prepare-prepared.ensures e in
-    back_unprepared tables_at c.args.memory.now c.args.journal.now c.args.position (looks _ c.in-Err.is)
+returns-in-Err c = back_unprepared _ c.args.memory.now c.args.journal.now c.args.position (seen c.prepare.ensures c.in-Err.is)
 
 pub returns-in-Ok : goal.returns-in-Ok
-returns-in-Ok c =
-    let tables_at : Tables = tables_of c.args.regions.now c.args.externs.now c.args.parameters.now c.args.nodes.now c.args.arguments.now c.args.instructions.now in
-    let looks : (r : Outcome ℕ) → c.prepare-prepared.result ≡ r → prepared_of tables_at (length c.args.memory.now) (length c.args.journal.now) ≡ r = λ r e. seen c.prepare-prepared.ensures e in
-    back_on tables_at c.args.memory.now c.args.journal.now c.args.position (looks _ c.in-Ok.is) c.take_back.ensures
+returns-in-Ok c = back_on _ c.args.memory.now c.args.journal.now c.args.position (seen c.prepare.ensures c.in-Ok.is) c.take_back.ensures

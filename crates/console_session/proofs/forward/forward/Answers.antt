@@ -1,54 +1,23 @@
-use Rattle.tables.specs.Outcome.{Outcome}
-use Rattle.std.proofs.Common.{ℕ}
+use Rattle.std.proofs.Common.{sym, arith, length-take-le}
 use Rattle.tables.proofs.Passed.{seen}
-use Prim.Native.Nat.{◌*◌}
-use mathlib.Core.Path.{◌≡◌, sym}
-use native.Mathlib.Omega.{arith}
-use lib.ListN.{length}
-use lib.Seq.{length-take-le}
-use Rattle.tables.specs.Tables.{Tables, tables_of}
-use Rattle.journal.specs.Cells.{cell_width}
-use Rattle.session.specs.Prepare.{prepared_of}
-use Rattle.session.proofs.Prepared.{Facts, prepared, ready}
+use Rattle.session.proofs.Prepared.{prepared, ready}
 use Rattle.session_forward.proofs.StepLaws.{ready_steppable, forward_unprepared, forward_on}
 use Rattle.console_session.proofs.forward.forward.Goals as goal
 
 pub overflow_mul-n : goal.overflow_mul-n
-overflow_mul-n c =
-    let tables_at : Tables = tables_of c.args.regions.now c.args.externs.now c.args.parameters.now c.args.nodes.now c.args.arguments.now c.args.instructions.now in
-    let looks : (r : Outcome ℕ) → c.prepare-prepared.result ≡ r → prepared_of tables_at (length c.args.memory.now) (length c.args.journal.now) ≡ r = λ r e. seen c.prepare-prepared.ensures e in
-    let facts : Facts tables_at (length c.args.memory.now) (length c.args.journal.now) c.in-Ok.n = prepared _ _ _ (looks _ c.in-Ok.is) in
-    omega (arith, facts.few)
+overflow_mul-n c = let facts = prepared _ _ _ (seen c.prepare.ensures c.in-Ok.is) in omega (arith, facts.few)
 
 pub slice_bounds-step_cells-end : goal.slice_bounds-step_cells-end
-slice_bounds-step_cells-end c =
-    let tables_at : Tables = tables_of c.args.regions.now c.args.externs.now c.args.parameters.now c.args.nodes.now c.args.arguments.now c.args.instructions.now in
-    let looks : (r : Outcome ℕ) → c.prepare-prepared.result ≡ r → prepared_of tables_at (length c.args.memory.now) (length c.args.journal.now) ≡ r = λ r e. seen c.prepare-prepared.ensures e in
-    let facts : Facts tables_at (length c.args.memory.now) (length c.args.journal.now) c.in-Ok.n = prepared _ _ _ (looks _ c.in-Ok.is) in
-    facts.room
+slice_bounds-step_cells-end c = (prepared _ _ _ (seen c.prepare.ensures c.in-Ok.is)).room
 
 pub slice_bounds-step_cells-end-in-Ok : goal.slice_bounds-step_cells-end-in-Ok
-slice_bounds-step_cells-end-in-Ok c =
-    let tables_at : Tables = tables_of c.args.regions.now c.args.externs.now c.args.parameters.now c.args.nodes.now c.args.arguments.now c.args.instructions.now in
-    let looks : (r : Outcome ℕ) → c.prepare-prepared.result ≡ r → prepared_of tables_at (length c.args.memory.now) (length c.args.journal.now) ≡ r = λ r e. seen c.prepare-prepared.ensures e in
-    let facts : Facts tables_at (length c.args.memory.now) (length c.args.journal.now) c.in-Ok.n = prepared _ _ _ (looks _ c.in-Ok.is) in
-    sym (length-take-le (cell_width * c.in-Ok.n) c.args.memory.now facts.room)
+slice_bounds-step_cells-end-in-Ok c = sym (length-take-le _ c.args.memory.now (prepared _ _ _ (seen c.prepare.ensures c.in-Ok.is)).room)
 
 pub step_cells-requires : goal.step_cells-requires
-step_cells-requires c =
-    let tables_at : Tables = tables_of c.args.regions.now c.args.externs.now c.args.parameters.now c.args.nodes.now c.args.arguments.now c.args.instructions.now in
-    let looks : (r : Outcome ℕ) → c.prepare-prepared.result ≡ r → prepared_of tables_at (length c.args.memory.now) (length c.args.journal.now) ≡ r = λ r e. seen c.prepare-prepared.ensures e in
-    let facts : Facts tables_at (length c.args.memory.now) (length c.args.journal.now) c.in-Ok.n = prepared _ _ _ (looks _ c.in-Ok.is) in
-    ready_steppable (ready _ _ _ facts)
+step_cells-requires c = ready_steppable (ready _ _ _ (prepared _ _ _ (seen c.prepare.ensures c.in-Ok.is)))
 
 pub returns-in-Err : goal.returns-in-Err
-returns-in-Err c =
-    let tables_at : Tables = tables_of c.args.regions.now c.args.externs.now c.args.parameters.now c.args.nodes.now c.args.arguments.now c.args.instructions.now in
-    let looks : (r : Outcome ℕ) → c.prepare-prepared.result ≡ r → prepared_of tables_at (length c.args.memory.now) (length c.args.journal.now) ≡ r = λ r e. seen c.prepare-prepared.ensures e in
-    forward_unprepared tables_at c.args.memory.now c.args.journal.now c.args.position c.args.reply.now (looks _ c.in-Err.is)
+returns-in-Err c = forward_unprepared _ c.args.memory.now c.args.journal.now c.args.position c.args.reply.now (seen c.prepare.ensures c.in-Err.is)
 
 pub returns-in-Ok : goal.returns-in-Ok
-returns-in-Ok c =
-    let tables_at : Tables = tables_of c.args.regions.now c.args.externs.now c.args.parameters.now c.args.nodes.now c.args.arguments.now c.args.instructions.now in
-    let looks : (r : Outcome ℕ) → c.prepare-prepared.result ≡ r → prepared_of tables_at (length c.args.memory.now) (length c.args.journal.now) ≡ r = λ r e. seen c.prepare-prepared.ensures e in
-    forward_on tables_at c.args.memory.now c.args.journal.now c.args.position c.args.reply.now (looks _ c.in-Ok.is) (c.step_cells.ensures c.args.nodes.now)
+returns-in-Ok c = forward_on _ c.args.memory.now c.args.journal.now c.args.position c.args.reply.now (seen c.prepare.ensures c.in-Ok.is) (c.step_cells.ensures c.args.nodes.now)

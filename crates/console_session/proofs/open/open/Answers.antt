@@ -1,54 +1,26 @@
-use Rattle.tables.specs.Outcome.{Outcome}
-use Rattle.std.proofs.Common.{ℕ}
+use Rattle.std.proofs.Common.{◌≡◌, Err, sym, arith, rules, length-take-le}
+use Rattle.type_rules.specs.declared.error.ProgramError.TheVariants as P
 use Rattle.tables.proofs.Passed.{seen}
-use Prim.Native.Nat.{◌*◌}
-use mathlib.Core.Path.{◌≡◌, sym}
-use native.Mathlib.Omega.{arith}
-use lib.ListN.{length}
-use lib.Seq.{length-take-le}
-use Rattle.tables.specs.Tables.{Tables, tables_of}
-use Rattle.journal.specs.Cells.{cell_width}
-use Rattle.session.specs.Prepare.{prepared_of}
-use Rattle.session.proofs.Prepared.{Facts, prepared, ready}
+use Rattle.session.proofs.Prepared.{prepared, ready}
 use Rattle.session_open.proofs.OpenLaws.{ready_open, open_unprepared, open_on}
 use Rattle.console_session.proofs.open.open.Goals as goal
 
 pub overflow_mul-cells : goal.overflow_mul-cells
-overflow_mul-cells c =
-    let tables_at : Tables = tables_of c.args.regions.now c.args.externs.now c.args.parameters.now c.args.nodes.now c.args.arguments.now c.args.instructions.now in
-    let looks : (r : Outcome ℕ) → c.prepare-prepared.result ≡ r → prepared_of tables_at (length c.args.memory.now) (length c.args.journal.now) ≡ r = λ r e. seen c.prepare-prepared.ensures e in
-    let facts : Facts tables_at (length c.args.memory.now) (length c.args.journal.now) c.in-Ok.cells = prepared _ _ _ (looks _ c.in-Ok.is) in
-    omega (arith, facts.few)
+overflow_mul-cells c = let facts = prepared _ _ _ (seen c.prepare.ensures c.in_ok-cells.was) in omega (arith, facts.few)
 
 pub slice_bounds-open_cells-end : goal.slice_bounds-open_cells-end
-slice_bounds-open_cells-end c =
-    let tables_at : Tables = tables_of c.args.regions.now c.args.externs.now c.args.parameters.now c.args.nodes.now c.args.arguments.now c.args.instructions.now in
-    let looks : (r : Outcome ℕ) → c.prepare-prepared.result ≡ r → prepared_of tables_at (length c.args.memory.now) (length c.args.journal.now) ≡ r = λ r e. seen c.prepare-prepared.ensures e in
-    let facts : Facts tables_at (length c.args.memory.now) (length c.args.journal.now) c.in-Ok.cells = prepared _ _ _ (looks _ c.in-Ok.is) in
-    facts.room
+slice_bounds-open_cells-end c = (prepared _ _ _ (seen c.prepare.ensures c.in_ok-cells.was)).room
 
-pub slice_bounds-open_cells-end-in-Ok : goal.slice_bounds-open_cells-end-in-Ok
-slice_bounds-open_cells-end-in-Ok c =
-    let tables_at : Tables = tables_of c.args.regions.now c.args.externs.now c.args.parameters.now c.args.nodes.now c.args.arguments.now c.args.instructions.now in
-    let looks : (r : Outcome ℕ) → c.prepare-prepared.result ≡ r → prepared_of tables_at (length c.args.memory.now) (length c.args.journal.now) ≡ r = λ r e. seen c.prepare-prepared.ensures e in
-    let facts : Facts tables_at (length c.args.memory.now) (length c.args.journal.now) c.in-Ok.cells = prepared _ _ _ (looks _ c.in-Ok.is) in
-    sym (length-take-le (cell_width * c.in-Ok.cells) c.args.memory.now facts.room)
+pub slice_bounds-open_cells-end-2 : goal.slice_bounds-open_cells-end-2
+slice_bounds-open_cells-end-2 c = sym (length-take-le _ c.args.memory.now (prepared _ _ _ (seen c.prepare.ensures c.in_ok-cells.was)).room)
 
 pub open_cells-requires : goal.open_cells-requires
-open_cells-requires c =
-    let tables_at : Tables = tables_of c.args.regions.now c.args.externs.now c.args.parameters.now c.args.nodes.now c.args.arguments.now c.args.instructions.now in
-    let looks : (r : Outcome ℕ) → c.prepare-prepared.result ≡ r → prepared_of tables_at (length c.args.memory.now) (length c.args.journal.now) ≡ r = λ r e. seen c.prepare-prepared.ensures e in
-    let facts : Facts tables_at (length c.args.memory.now) (length c.args.journal.now) c.in-Ok.cells = prepared _ _ _ (looks _ c.in-Ok.is) in
-    ready_open (ready _ _ _ facts)
+open_cells-requires c = ready_open (ready _ _ _ (prepared _ _ _ (seen c.prepare.ensures c.in_ok-cells.was)))
 
-pub returns-in-Err : goal.returns-in-Err
-returns-in-Err c =
-    let tables_at : Tables = tables_of c.args.regions.now c.args.externs.now c.args.parameters.now c.args.nodes.now c.args.arguments.now c.args.instructions.now in
-    let looks : (r : Outcome ℕ) → c.prepare-prepared.result ≡ r → prepared_of tables_at (length c.args.memory.now) (length c.args.journal.now) ≡ r = λ r e. seen c.prepare-prepared.ensures e in
-    open_unprepared tables_at c.args.memory.now _ (looks _ c.in-Err.is)
+pub returns-in_err-cells : goal.returns-in_err-cells
+returns-in_err-cells c =
+    let told : c.from_residual.result ≡ Err (P.Refused c.in_err-cells.field-0.0) = search rules in
+    rw told (open_unprepared _ c.args.memory.now _ (seen c.prepare.ensures c.in_err-cells.was))
 
-pub returns-in-Ok : goal.returns-in-Ok
-returns-in-Ok c =
-    let tables_at : Tables = tables_of c.args.regions.now c.args.externs.now c.args.parameters.now c.args.nodes.now c.args.arguments.now c.args.instructions.now in
-    let looks : (r : Outcome ℕ) → c.prepare-prepared.result ≡ r → prepared_of tables_at (length c.args.memory.now) (length c.args.journal.now) ≡ r = λ r e. seen c.prepare-prepared.ensures e in
-    open_on tables_at c.args.memory.now _ (looks _ c.in-Ok.is) c.open_cells.ensures
+pub returns : goal.returns
+returns c = open_on _ c.args.memory.now _ (seen c.prepare.ensures c.in_ok-cells.was) c.open_cells.ensures
