@@ -30,7 +30,7 @@ pub fn console_access(
         writes,
     );
     match answer {
-        Err(number) => number,
+        Err(refusal) => refusal.number(),
         Ok((read, written)) => {
             counts[0] = read as u64;
             counts[1] = written as u64;

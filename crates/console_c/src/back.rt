@@ -32,7 +32,7 @@ pub fn console_back(
         old,
     );
     match answer {
-        Err((number, _)) => number,
+        Err((refusal, _)) => refusal.number(),
         Ok(p) => {
             write_position(position, p);
             0

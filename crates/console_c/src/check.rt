@@ -2,10 +2,10 @@ ghost use Rattle.std.specs.Prelude.{◌≡◌};
 ghost use Rattle.tables.specs.Tables.{tables_of};
 ghost use Rattle.console_c.specs.Check.{checked_words, console_check};
 
-use type_rules::error::ProgramError;
 use console::check::check;
 use console_words::error::write_error;
 use tables::refusal::Refusal;
+use type_rules::error::ProgramError;
 
 pub fn console_check(
     regions: &[u64],
@@ -21,10 +21,12 @@ pub fn console_check(
     let answer = check(regions, externs, parameters, nodes, arguments, instructions);
     match answer {
         Ok(()) => 0,
-        Err(ProgramError::Refused(number)) => number,
-        Err(ProgramError::Type(e)) => {
-            write_error(error, e);
-            Refusal::TypeError
-        }
+        Err(turned_down) => match turned_down {
+            ProgramError::Refused(refusal) => refusal.number(),
+            ProgramError::Type(e) => {
+                write_error(error, e);
+                Refusal::TypeError.number()
+            }
+        },
     }
 }

@@ -34,7 +34,7 @@ pub fn console_forward(
         reply,
     );
     match answer {
-        Err((number, _)) => number,
+        Err((refusal, _)) => refusal.number(),
         Ok(p) => {
             write_position(position, p);
             0

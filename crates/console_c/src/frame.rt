@@ -33,11 +33,13 @@ pub fn console_frame(
             looked[0] = n;
             0
         }
-        Err(FrameError::Refused(number)) => number,
-        Err(FrameError::Type(e, n)) => {
-            looked[0] = n;
-            write_error(error, e);
-            Refusal::TypeError
-        }
+        Err(turned_down) => match turned_down {
+            FrameError::Refused(refusal) => refusal.number(),
+            FrameError::Type(e, n) => {
+                looked[0] = n;
+                write_error(error, e);
+                Refusal::TypeError.number()
+            }
+        },
     }
 }

@@ -2,10 +2,10 @@ ghost use Rattle.std.specs.Prelude.{◌≡◌};
 ghost use Rattle.tables.specs.Tables.{tables_of};
 ghost use Rattle.console_c.specs.JournalLength.{length_words, console_journal_length};
 
-use type_rules::error::ProgramError;
 use console_words::error::write_error;
 use session_length::length::journal_length;
 use tables::refusal::Refusal;
+use type_rules::error::ProgramError;
 
 pub fn console_journal_length(
     regions: &[u64],
@@ -25,10 +25,12 @@ pub fn console_journal_length(
             entries[0] = n as u64;
             0
         }
-        Err(ProgramError::Refused(number)) => number,
-        Err(ProgramError::Type(e)) => {
-            write_error(error, e);
-            Refusal::TypeError
-        }
+        Err(turned_down) => match turned_down {
+            ProgramError::Refused(refusal) => refusal.number(),
+            ProgramError::Type(e) => {
+                write_error(error, e);
+                Refusal::TypeError.number()
+            }
+        },
     }
 }

@@ -2,12 +2,12 @@ ghost use Rattle.std.specs.Prelude.{◌≡◌, length};
 ghost use Rattle.tables.specs.Tables.{tables_of};
 ghost use Rattle.console_c.specs.Open.{opened_words, console_open};
 
-use type_rules::error::ProgramError;
 use console_session::open::open;
 use console_words::error::write_error;
 use console_words::position::write_position;
 use session::answer::OpenAnswer;
 use tables::refusal::Refusal;
+use type_rules::error::ProgramError;
 
 pub fn console_open(
     regions: &[u64],
@@ -38,10 +38,12 @@ pub fn console_open(
             write_position(position, p);
             0
         }
-        Err(ProgramError::Refused(number)) => number,
-        Err(ProgramError::Type(e)) => {
-            write_error(error, e);
-            Refusal::TypeError
-        }
+        Err(turned_down) => match turned_down {
+            ProgramError::Refused(refusal) => refusal.number(),
+            ProgramError::Type(e) => {
+                write_error(error, e);
+                Refusal::TypeError.number()
+            }
+        },
     }
 }

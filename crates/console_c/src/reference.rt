@@ -4,6 +4,7 @@ ghost use Rattle.console.specs.References.{found_words};
 ghost use Rattle.console_c.specs.Reference.{referred_words, console_reference};
 
 use console::references::memory_references;
+use memory::MemoryReference;
 
 fn write_found(found: &mut [u64; 3], next: Option<MemoryReference>)
     ensures { found.new ≡ sets found.old 0 (found_words next) }
@@ -34,7 +35,7 @@ pub fn console_reference(
     let old = place[0];
     let answer = memory_references(nodes, first, node_count, old as usize);
     match answer {
-        Err(number) => number,
+        Err(refusal) => refusal.number(),
         Ok(step) => {
             let next = step.found;
             place[0] = step.place as u64;

@@ -16,7 +16,7 @@ pub fn console_references(
     let old = place[0];
     let answer = references(nodes, first, node_count, old as usize, rows);
     match answer {
-        Err(number) => number,
+        Err(refusal) => refusal.number(),
         Ok(handed) => {
             place[0] = handed.place as u64;
             count[0] = handed.count as u64;

@@ -2,8 +2,8 @@ ghost use Rattle.std.specs.Prelude.{◌≡◌};
 ghost use Rattle.tables.specs.Tables.{tables_of};
 ghost use Rattle.console_c.specs.Resolve.{resolved_words, console_resolve};
 
-use extern_call::rows::ResolveError;
 use console::resolve::resolve;
+use extern_call::rows::ResolveError;
 use tables::refusal::Refusal;
 
 pub fn console_resolve(
@@ -30,14 +30,16 @@ pub fn console_resolve(
         rows,
     );
     match answer {
-        Err(ResolveError::Refused(number)) => number,
-        Err(ResolveError::Errors(errors)) => {
-            count[0] = errors as u64;
-            Refusal::ArgumentErrors
-        }
         Ok(resolved) => {
             count[0] = resolved as u64;
             0
         }
+        Err(turned_down) => match turned_down {
+            ResolveError::Refused(refusal) => refusal.number(),
+            ResolveError::Errors(errors) => {
+                count[0] = errors as u64;
+                Refusal::ArgumentErrors.number()
+            }
+        },
     }
 }

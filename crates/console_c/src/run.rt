@@ -36,7 +36,7 @@ pub fn console_run(
         allowance,
     );
     match answer {
-        Err((number, _)) => number,
+        Err((refusal, _)) => refusal.number(),
         Ok((steps, stop, p)) => {
             write_position(position, p);
             write_ran(ran, steps, stop);
