@@ -4,8 +4,36 @@ use crate::refusal::{cause, mender};
 use crate::type_error;
 use tables::refusal::Refusal;
 
+// All of them, in the order of their numbers.
+const REFUSALS: [Refusal; 24] = [
+    Refusal::TableShape,
+    Refusal::WordNotAllowed,
+    Refusal::NameTwice,
+    Refusal::BufferSize,
+    Refusal::TypeError,
+    Refusal::ExternNotFound,
+    Refusal::ArgumentCount,
+    Refusal::ArgumentErrors,
+    Refusal::OtherInstruction,
+    Refusal::TooManyCells,
+    Refusal::AtEnd,
+    Refusal::NothingToTakeBack,
+    Refusal::JournalFull,
+    Refusal::IndexPastLength,
+    Refusal::ZeroDivisor,
+    Refusal::NegativeShiftCount,
+    Refusal::UnfitReply,
+    Refusal::NoRule,
+    Refusal::ForeignPosition,
+    Refusal::UnfitLabels,
+    Refusal::ConditionNotBit,
+    Refusal::UnfitConversion,
+    Refusal::OutsideInteger,
+    Refusal::UnfitLiteral,
+];
+
 // A line for each number; there is no refusal 0.
-fn calls(refusal: u64) {
+fn calls(refusal: Refusal) {
     line(
         b"\n\
         all calls\n\
@@ -32,7 +60,7 @@ fn calls(refusal: u64) {
         open, journal_length\n\
         forward\n\
         forward (a MOVE or a STORE)",
-        refusal,
+        refusal.number(),
     );
 }
 
@@ -53,9 +81,11 @@ fn type_errors() {
 }
 
 // Each kind of place, of type error and of argument error has an example of its own, each cause of 19 to 24, a frame's left operand, and a journal that is long enough.
-fn more(refusal: u64) {
+fn more(refusal: Refusal) {
     match refusal {
-        Refusal::TableShape => text(b"- A table over its limit: `examples/refusal-1-limit.tables`\n"),
+        Refusal::TableShape => text(
+            b"- A table over its limit: `examples/refusal-1-limit.tables`\n",
+        ),
         Refusal::WordNotAllowed => text(
             b"- An unused word that is not 0: `examples/refusal-2-unused.tables`; a range outside its table: `-range.tables`; not exactly one tree: `-tree.tables`\n",
         ),
@@ -90,9 +120,9 @@ fn more(refusal: u64) {
     }
 }
 
-fn refusal_entry(refusal: u64) {
+fn refusal_entry(refusal: Refusal) {
     text(b"\n## ");
-    number(refusal);
+    number(refusal.number());
     text(b"\n\n- Cause: ");
     cause(refusal);
     text(b".\n- Mended by: ");
@@ -100,13 +130,13 @@ fn refusal_entry(refusal: u64) {
     text(b".\n- Given by: ");
     calls(refusal);
     text(b".\n- Example: `examples/refusal-");
-    number(refusal);
+    number(refusal.number());
     text(b".tables`\n");
     more(refusal);
 }
 
 fn refusal_entries() {
-    for refusal in Refusal::TableShape..=Refusal::UnfitLiteral {
+    for refusal in REFUSALS {
         refusal_entry(refusal);
     }
 }

@@ -4,7 +4,7 @@ use crate::view::View;
 use tables::refusal::Refusal;
 
 // A line for each number; there is no refusal 0.
-pub fn cause(refusal: u64) {
+pub fn cause(refusal: Refusal) {
     line(
         b"\n\
         a table is not whole rows, or has more rows than its limit\n\
@@ -31,26 +31,30 @@ pub fn cause(refusal: u64) {
         a CONVERT is not between INTEGER and REAL, or one of its names is not declared\n\
         a REAL to convert is a NaN, an infinity, or outside -2^63 to 2^63-1 after its fraction is dropped\n\
         an integer literal is outside its target's kind: 0 to 1 for a BIT, 0 to 255 for an OCTET",
-        refusal,
+        refusal.number(),
     );
 }
 
 // Who can mend it.
-pub fn mender(refusal: u64) -> &'static [u8] {
+pub fn mender(refusal: Refusal) -> &'static [u8] {
     match refusal {
-        Refusal::TableShape..=Refusal::BufferSize => b"the loader",
-        Refusal::AtEnd..=Refusal::JournalFull => b"the student",
-        Refusal::IndexPastLength..=Refusal::NegativeShiftCount | Refusal::OutsideInteger => b"the running program",
+        Refusal::TableShape | Refusal::WordNotAllowed | Refusal::NameTwice | Refusal::BufferSize =>
+            b"the loader",
+        Refusal::AtEnd | Refusal::NothingToTakeBack | Refusal::JournalFull => b"the student",
+        Refusal::IndexPastLength
+        | Refusal::ZeroDivisor
+        | Refusal::NegativeShiftCount
+        | Refusal::OutsideInteger => b"the running program",
         Refusal::UnfitReply => b"the extern routine",
-        Refusal::NoRule..=Refusal::ForeignPosition => b"the foreign writer",
+        Refusal::NoRule | Refusal::ForeignPosition => b"the foreign writer",
         _ => b"the program's author",
     }
 }
 
-pub fn refused(refusal: u64, view: View) {
+pub fn refused(refusal: Refusal, view: View) {
     style(view, b"31");
     text(b"refused ");
-    number(refusal);
+    number(refusal.number());
     text(b": ");
     cause(refusal);
     text(b" (for ");

@@ -1,7 +1,7 @@
 // A file into the six tables, line by line.
 ghost use Rattle.std.specs.Prelude.{◌≤◌};
 
-use crate::row::{Outcome, Row, Trouble, has_comment, read_row};
+use crate::row::{Row, Trouble, has_comment, read_row};
 use crate::word::Fault;
 use script::line::{Line, Word, line_at, part, word_at};
 use stepper_words::heading::{Heading, Table, heading_of};
@@ -17,24 +17,17 @@ pub const TABLE_WORDS: usize = TABLES * ROOM;
 
 const DEFAULT_ENTRIES: usize = 64;
 
-// The memory to lend: exactly enough for the cells, or so many words.
-#[derive(Clone, Copy)]
-pub enum Memory {
-    Enough,
-    Words(usize),
-}
-
-// What was read so far: the heading under which rows stand, the line, its last word and whether it is taken, the names as texts, whether there are names as numbers, the tables' lengths in words, what is to be lent.
+// What was read so far: the heading under which rows stand, the line, its last word and whether it is taken, the names as texts, whether there are names as numbers, the tables' lengths in words, the words of memory that are asked for, if any, and the journal's entries.
 #[derive(Clone, Copy)]
 pub struct Reader {
     pub heading: Heading,
     pub line: usize,
     pub word: Word,
-    pub outcome: Outcome,
+    pub outcome: Result<(), Trouble>,
     pub names: usize,
     pub numbered: bool,
     pub lengths: [usize; TABLES],
-    pub memory: Memory,
+    pub memory: Option<usize>,
     pub entries: usize,
 }
 
@@ -94,7 +87,7 @@ impl Filler<'_> {
             return Err(Trouble::Count);
         }
         match heading {
-            Heading::Memory => self.reader.memory = Memory::Words(row.words[0] as usize),
+            Heading::Memory => self.reader.memory = Some(row.words[0] as usize),
             Heading::Journal => self.reader.entries = row.words[0] as usize,
             _ => {}
         }
@@ -129,9 +122,7 @@ impl Filler<'_> {
         self.reader.word = row.word;
         self.reader.names = row.names;
         self.reader.numbered = row.numbered;
-        if let Outcome::Not(trouble) = row.outcome {
-            return Err(trouble);
-        }
+        row.outcome?;
         match heading {
             Heading::Loose => self.loose_words(row),
             Heading::Nothing => self.table_words(true, row),
@@ -187,18 +178,17 @@ pub fn read_file(
             heading: Heading::Nothing,
             line: 0,
             word: Word { start: 0, end: 0 },
-            outcome: Outcome::Taken,
+            outcome: Ok(()),
             names: 0,
             numbered: false,
             lengths: [0; TABLES],
-            memory: Memory::Enough,
+            memory: None,
             entries: DEFAULT_ENTRIES,
         },
     };
-    let read = filler.read_lines();
-    let mut reader = filler.reader;
-    if let Err(trouble) = read {
-        reader.outcome = Outcome::Not(trouble);
+    let outcome = filler.read_lines();
+    Reader {
+        outcome,
+        ..filler.reader
     }
-    reader
 }

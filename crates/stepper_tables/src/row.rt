@@ -29,18 +29,6 @@ impl From<Fault> for Trouble {
     }
 }
 
-#[derive(Clone, Copy)]
-pub enum Outcome {
-    Taken,
-    Not(Trouble),
-}
-
-impl Outcome {
-    pub fn is_taken(self) -> bool {
-        matches!(self, Outcome::Taken)
-    }
-}
-
 // The words, how many, how many names are known as texts after them, whether a name was written as a number, the word of the text that was read last, and whether all is taken.
 #[derive(Clone, Copy)]
 pub struct Row {
@@ -49,7 +37,7 @@ pub struct Row {
     pub names: usize,
     pub numbered: bool,
     pub word: Word,
-    pub outcome: Outcome,
+    pub outcome: Result<(), Trouble>,
 }
 
 // A label's name, without its `@`.
@@ -177,7 +165,7 @@ pub fn read_row(
         names: known_names,
         numbered,
         word: Word { start: 0, end: 0 },
-        outcome: Outcome::Taken,
+        outcome: Ok(()),
     };
     let mut place = at;
     'words: for _ in 0..=ROW_WORDS {
@@ -185,8 +173,8 @@ pub fn read_row(
         if word.start >= word.end {
             break;
         }
-        if let Err(trouble) = row.add(text, names, heading, word) {
-            row.outcome = Outcome::Not(trouble);
+        row.outcome = row.add(text, names, heading, word);
+        if row.outcome.is_err() {
             break;
         }
         place = word.end;

@@ -1,9 +1,8 @@
 // One word of a file, read by its place.
 use real_text::decimal::read_decimal;
 use script::number::read_number;
-use stepper_words::list::Listed;
 use stepper_words::place::Place;
-use stepper_words::vocabulary::{Operation, is_reserved, number_of, operation_of};
+use stepper_words::vocabulary::{is_reserved, number_of, operation_of};
 
 // Why a word is not taken. A place says what is needed there; a mnemonic in small letters has its family and operator.
 #[derive(Clone, Copy)]
@@ -17,22 +16,6 @@ pub enum Fault {
     Operation(Place),
     Expected(Place),
     Comment,
-}
-
-// A word as a number.
-#[derive(Drop)]
-pub enum Written {
-    Word(u64),
-    Not(Fault),
-}
-
-impl From<Result<u64, Fault>> for Written {
-    fn from(read: Result<u64, Fault>) -> Written {
-        match read {
-            Ok(word) => Written::Word(word),
-            Err(fault) => Written::Not(fault),
-        }
-    }
 }
 
 // What a word gives: one number, two of them, a name as a text, which is the whole word or a label's, after its `@`, a name as a number.
@@ -60,7 +43,8 @@ fn is_name(word: &[u8]) -> bool {
         && bytes.all(|byte| is_letter(*byte) || byte.is_ascii_digit() || *byte == b'-')
 }
 
-fn read_real(word: &[u8]) -> Result<u64, Fault> {
+// A short decimal as its REAL word.
+pub fn decimal(word: &[u8]) -> Result<u64, Fault> {
     match read_decimal(word) {
         real_text::decimal::Reading::Word(bits) => Ok(bits),
         real_text::decimal::Reading::TooLong => Err(Fault::TooManyDigits),
@@ -68,21 +52,12 @@ fn read_real(word: &[u8]) -> Result<u64, Fault> {
     }
 }
 
-fn read_whole(word: &[u8]) -> Result<u64, Fault> {
+pub fn integer(word: &[u8]) -> Result<u64, Fault> {
     match read_number(word) {
         script::number::Reading::Number(n) => Ok(n),
         script::number::Reading::Past => Err(Fault::TooLarge),
         script::number::Reading::NoNumber => Err(Fault::NoWord),
     }
-}
-
-// A short decimal as its REAL word.
-pub fn decimal(word: &[u8]) -> Written {
-    read_real(word).into()
-}
-
-pub fn integer(word: &[u8]) -> Written {
-    read_whole(word).into()
 }
 
 // A word that is no number at all says what is needed instead.
@@ -94,14 +69,14 @@ fn instead(fault: Fault, place: Place) -> Fault {
 }
 
 fn whole(word: &[u8], place: Place) -> Result<u64, Fault> {
-    read_whole(word).map_err(|fault| instead(fault, place))
+    integer(word).map_err(|fault| instead(fault, place))
 }
 
 // A word that is no number and none of its place's.
 fn stranger(word: &[u8], place: Place) -> Fault {
     match operation_of(word, true) {
-        Operation::Of(_, _) => Fault::Operation(place),
-        Operation::Absent => Fault::Expected(place),
+        Some(_) => Fault::Operation(place),
+        None => Fault::Expected(place),
     }
 }
 
@@ -110,8 +85,8 @@ fn name_text(word: &[u8], place: Place) -> Result<Value, Fault> {
         return Err(Fault::Reserved);
     }
     match operation_of(word, true) {
-        Operation::Of(_, _) => Err(Fault::Operation(place)),
-        Operation::Absent => Ok(Value::Name),
+        Some(_) => Err(Fault::Operation(place)),
+        None => Ok(Value::Name),
     }
 }
 
@@ -140,8 +115,8 @@ fn label(word: &[u8]) -> Result<Value, Fault> {
 // A mnemonic in other letters than capitals is told so.
 fn no_operation(word: &[u8]) -> Fault {
     match operation_of(word, true) {
-        Operation::Of(family, operator) => Fault::Capitals(family, operator),
-        Operation::Absent => Fault::Expected(Place::Operation),
+        Some((family, operator)) => Fault::Capitals(family, operator),
+        None => Fault::Expected(Place::Operation),
     }
 }
 
@@ -150,8 +125,8 @@ fn operation(word: &[u8]) -> Result<Value, Fault> {
         return whole(word, Place::Operation).map(Value::One);
     }
     match operation_of(word, false) {
-        Operation::Of(family, operator) => Ok(Value::Two(family, operator)),
-        Operation::Absent => Err(no_operation(word)),
+        Some((family, operator)) => Ok(Value::Two(family, operator)),
+        None => Err(no_operation(word)),
     }
 }
 
@@ -164,7 +139,7 @@ fn real(word: &[u8]) -> Result<u64, Fault> {
         return whole(word, Place::Real);
     }
     if word.iter().any(|byte| matches!(*byte, b'.' | b'e' | b'E')) {
-        return read_real(word).map_err(|fault| instead(fault, Place::Real));
+        return decimal(word).map_err(|fault| instead(fault, Place::Real));
     }
     whole(word, Place::Real)?;
     Err(Fault::NoPoint)
@@ -176,8 +151,8 @@ fn listed(word: &[u8], place: Place) -> Result<u64, Fault> {
         return whole(word, place);
     }
     match number_of(place, word) {
-        Listed::At(n) => Ok(n as u64),
-        Listed::Absent => Err(stranger(word, place)),
+        Some(n) => Ok(n as u64),
+        None => Err(stranger(word, place)),
     }
 }
 

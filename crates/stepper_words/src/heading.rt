@@ -1,7 +1,7 @@
 // The headings of a file's lines, and the six tables.
 ghost use Rattle.std.specs.Prelude.{◌<◌};
 
-use crate::list::{Listed, index_of};
+use crate::list::index_of;
 use journal::cells::CELL_WIDTH;
 use journal::entries::ENTRY_WIDTH;
 use tables::rows::{
@@ -97,8 +97,5 @@ fn heading_at(place: usize) -> Heading {
 }
 
 pub fn heading_of(word: &[u8]) -> Heading {
-    match index_of(&HEADINGS, word) {
-        Listed::At(place) => heading_at(place),
-        Listed::Absent => Heading::Nothing,
-    }
+    index_of(&HEADINGS, word).map_or(Heading::Nothing, heading_at)
 }

@@ -1,13 +1,6 @@
 // Lists in one text: words with blanks between them, or lines.
 use script::line::{line_at, part};
 
-// Where a word stands in a list, from 0.
-#[derive(Drop)]
-pub enum Listed {
-    At(usize),
-    Absent,
-}
-
 // What stands between words of a list.
 fn is_blank(byte: &u8) -> bool {
     matches!(*byte, b' ' | b'\t' | b'\r')
@@ -31,13 +24,12 @@ pub fn line_of(list: &[u8], place: u64) -> &[u8] {
     part(list, line.start, line.end)
 }
 
-// Where a word stands in a list, in the list's letters or in small and capital ones alike.
-pub fn find(list: &[u8], word: &[u8], any_case: bool) -> Listed {
+// Where a word stands in a list, from 0, in the list's letters or in small and capital ones alike.
+pub fn find(list: &[u8], word: &[u8], any_case: bool) -> Option<usize> {
     let mut words = list.split(is_blank).filter(|word| !word.is_empty());
-    let place = words.position(|item| item == word || any_case && item.eq_ignore_ascii_case(word));
-    place.map_or(Listed::Absent, Listed::At)
+    words.position(|item| item == word || any_case && item.eq_ignore_ascii_case(word))
 }
 
-pub fn index_of(list: &[u8], word: &[u8]) -> Listed {
+pub fn index_of(list: &[u8], word: &[u8]) -> Option<usize> {
     find(list, word, false)
 }

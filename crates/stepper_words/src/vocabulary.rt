@@ -1,6 +1,6 @@
 // The words that stand for numbers, by place, and the words that are no names. A word's number is its place in its list.
 use crate::heading::HEADINGS;
-use crate::list::{Listed, find, index_of, line_of};
+use crate::list::{find, index_of, line_of};
 use crate::place::{LAST_FAMILY, Place};
 use tables::parameter_shape;
 
@@ -22,32 +22,23 @@ const SOURCES: [u8; 27] = *b"integer real reference none";
 pub const MNEMONICS: [u8; 211] =
     *b"ADD SUB DIV MUL\nEQ GE GT LE LT\nAND IOR XOR SHL SHR ASHR\nNEG NOT\nMOVE\nEXCHANGE\nLOAD\nSTORE\nSET-FREQUENCY SET-PHASE SET-SCALE SHIFT-FREQUENCY SHIFT-PHASE\nCALL\nNOP OTHER\nJUMP\nJUMP-WHEN\nJUMP-UNLESS\nLABEL\nHALT\nCONVERT";
 
-// A family and its operator.
-#[derive(Drop)]
-pub enum Operation {
-    Of(u64, u64),
-    Absent,
+// The family and the operator of a mnemonic, in capitals or in any letters.
+pub fn operation_of(word: &[u8], any_case: bool) -> Option<(u64, u64)> {
+    (0..=LAST_FAMILY).find_map(|family| {
+        let operator = find(line_of(&MNEMONICS, family), word, any_case)?;
+        Some((family, operator as u64))
+    })
 }
 
-// The operation of a mnemonic, in capitals or in any letters.
-pub fn operation_of(word: &[u8], any_case: bool) -> Operation {
-    for family in 0..=LAST_FAMILY {
-        if let Listed::At(operator) = find(line_of(&MNEMONICS, family), word, any_case) {
-            return Operation::Of(family, operator as u64);
-        }
-    }
-    Operation::Absent
-}
-
-fn return_kind_number(word: &[u8]) -> Listed {
+fn return_kind_number(word: &[u8]) -> Option<usize> {
     if word == NO_RETURN {
-        return Listed::At(parameter_shape::NO_RETURN as usize);
+        return Some(parameter_shape::NO_RETURN as usize);
     }
     index_of(&KINDS, word)
 }
 
 // The number that a word stands for at a place.
-pub fn number_of(place: Place, word: &[u8]) -> Listed {
+pub fn number_of(place: Place, word: &[u8]) -> Option<usize> {
     match place {
         Place::Kind => index_of(&KINDS, word),
         Place::ReturnKind => return_kind_number(word),
@@ -56,7 +47,7 @@ pub fn number_of(place: Place, word: &[u8]) -> Listed {
         Place::Tag => index_of(&NODES, word),
         Place::Form => index_of(&ARGUMENTS, word),
         Place::SourceForm => index_of(&SOURCES, word),
-        _ => Listed::Absent,
+        _ => None,
     }
 }
 
@@ -72,5 +63,5 @@ pub fn is_reserved(word: &[u8]) -> bool {
         &SOURCES,
     ];
     let mut lists = lists.iter();
-    lists.any(|list| matches!(find(list, word, true), Listed::At(_)))
+    lists.any(|list| find(list, word, true).is_some())
 }

@@ -1,10 +1,6 @@
 -- Each row with which the program asks is one that the loader allows, and is at its place of the chart: one test computes it for all. Assumes nothing.
-use Rattle.type_rules.specs.declared.error.TypeError.{TypeError}
-use Rattle.std.proofs.Common.{ℕ, zero, suc, ◌+◌, ◌/◌, ◌%◌, ◌<◌, ◌≤◌, Bool, true, false, cond, ◌&&◌, [], Option, Some, None, eqb, ltb, leb, get_or, ◌≡◌, refl, sym, ap, ◌∙◌, arith, Result}
-use Rattle.std.specs.Option.{MatchOption, unwrap_or}
-use native.Mathlib.Decide.{ℕ_discrete}
+use Rattle.std.proofs.Common.{ℕ, ◌/◌, ◌%◌, ◌<◌, ◌≤◌, Bool, true, ◌&&◌, Result, [], eqb, ltb, leb, get_or, ◌≡◌, refl, ap, ◌∙◌, eqb-true, ltb-true, leb-true}
 use native.Mathlib.Nat.{div-le_self, mod-le, lt_of_le_of_lt}
-use borrow.Author.Tests.{eqb-true, ltb-true, leb-true}
 use Rattle.tables.specs.Family as family
 use Rattle.tables.specs.First.{first, every}
 use Rattle.tables.specs.Lookup.{lookup_among, lookup_of}
@@ -12,6 +8,7 @@ use Rattle.tables.specs.declared.rows.Instruction.{Instruction}
 use Rattle.tables.proofs.FirstLaws.{every-row}
 use Rattle.tables.proofs.Passed.{both}
 use Rattle.word_rules.specs.Instruction as words
+use Rattle.type_rules.specs.declared.error.TypeError.{TypeError}
 use Rattle.type_rules.specs.Codes.{kind_code, code_of, operand_code, source_code}
 use Rattle.type_check.specs.Check.{verdict_of}
 use Rattle.verdict_table.specs.Forms.{form_of}
@@ -40,29 +37,6 @@ module _ (place operators : ℕ) (h : place < form_count) where
 
     pub second_below : (seconds : ℕ) → place / operators / sources % seconds < form_count
     second_below seconds = lt_of_le_of_lt (mod-le (place / operators / sources) seconds) names-below
-
--- ---- what a search among numbers finds
-
-module _ (test : ℕ → Bool) (other : ℕ) where
-  nowhere : (n i : ℕ) → ((k : ℕ) → i ≤ k → k < i + n → test k ≡ false) → first test (λ k. k) other i n ≡ other
-  unfolding first
-  nowhere zero i fails = refl
-  nowhere (suc n) i fails = rw (fails i (omega arith) (omega arith)) (nowhere n (i + 1) (λ k l h. fails k (omega arith) (omega arith)))
-
-  found_at : (n i k : ℕ) → i ≤ k → k < i + n → test k ≡ true → ((j : ℕ) → i ≤ j → j < k → test j ≡ false) → first test (λ k. k) other i n ≡ k
-  unfolding first
-  found_at zero i k l h holds fails = absurd (omega arith)
-  found_at (suc n) i k l h holds fails = at (ℕ_discrete k i) (λ m. found_at n (i + 1) k m (omega arith) holds (λ j b a. fails j (omega arith) a))
-    where
-      at : Dec (k ≡ i) → (i + 1 ≤ k → first test (λ k. k) other (i + 1) n ≡ k) → cond (test i) i (first test (λ k. k) other (i + 1) n) ≡ k
-      at (yes e) later = rw (← e, holds)
-      at (no ne) later = rw (fails i (omega arith) (omega arith)) (later (omega arith))
-
-  pub found : (n : ℕ) (r : Option ℕ)
-      → MatchOption r ((k : ℕ) → 0 ≤ k → k < n → test k ≡ false) (λ i. (0 ≤ i) × (i < n) × (test i ≡ true) × ((k : ℕ) → 0 ≤ k → k < i → test k ≡ false))
-      → unwrap_or r other ≡ first test (λ k. k) other 0 n
-  found n None fails = sym (nowhere n 0 (λ k l h. fails k l (omega arith)))
-  found n (Some i) (l, h, holds, fails) = sym (found_at n 0 i l (omega arith) holds fails)
 
 -- ---- every place
 

@@ -1,4 +1,4 @@
-use borrow.Author.Tests.{eq-eqb, ne_eqb}
+use Rattle.std.proofs.Common.{eq-eqb, ne_eqb}
 use Rattle.verdict_digits.specs.Rows.{operand_word}
 use Rattle.verdict_digits.proofs.row.operand_word.Goals as goal
 

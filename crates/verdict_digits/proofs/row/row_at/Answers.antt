@@ -1,4 +1,4 @@
-use borrow.Author.Rules.{rules}
+use Rattle.std.proofs.Common.{rules}
 use Rattle.verdict_digits.specs.Rows.{row_at}
 use Rattle.verdict_digits.proofs.RowLaws.{within_block}
 use Rattle.verdict_digits.proofs.row.row_at.Goals as goal

@@ -1,4 +1,4 @@
-use borrow.Author.Rules.{rules}
+use Rattle.std.proofs.Common.{rules}
 use Rattle.verdict_digits.specs.Rows.{row_in}
 use Rattle.verdict_digits.proofs.RowLaws.{first_below, second_below, source-below}
 use Rattle.verdict_digits.proofs.row.row_in.Goals as goal

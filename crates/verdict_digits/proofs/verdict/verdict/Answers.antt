@@ -1,6 +1,4 @@
-use mathlib.Core.Path.{sym, ap, ◌∙◌}
-use native.Mathlib.Omega.{arith}
-use borrow.Author.Rules.{rules}
+use Rattle.std.proofs.Common.{sym, ap, ◌∙◌, arith, rules}
 use Rattle.tables.specs.declared.rows.Instruction.{Instruction}
 use Rattle.verdict_table.specs.Chart.{kind_of}
 use Rattle.verdict_digits.specs.Rows.{regions}

@@ -1,8 +1,0 @@
-use Rattle.std.proofs.Common.{◌-◌}
-use Rattle.stepper_words.proofs.vocabulary.operation_in.Given as goal
-
-abbrev pub invariant-loop-family : goal.invariant-loop-family
-invariant-loop-family l = Unit {0}
-
-abbrev pub decreases-loop-family : goal.decreases-loop-family
-decreases-loop-family l = 17 - l.family
