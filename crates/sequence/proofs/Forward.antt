@@ -9,7 +9,9 @@ use mathlib.Core.Path.{◌≡◌, refl, sym, ap, ap₂, ◌∙◌}
 use native.Mathlib.Numerals.{add-one}
 use native.Mathlib.Omega.{arith}
 use lib.ListN.{length, take, drop}
-use Rattle.tables.specs.Refusal.{no_rule}
+use Rattle.sequence.proofs.RefusalLaws.{same_refusal}
+use Rattle.tables.specs.declared.refusal.Refusal.{Refusal}
+use Rattle.tables.specs.Refusal.{refusal_number, no_rule}
 use Rattle.tables.specs.Outcome.{Outcome, ◌>>=◌, ◌>>◌, need}
 use Rattle.tables.specs.Rows.{instruction_at}
 use Rattle.tables.specs.declared.rows.Instruction.{Instruction}
@@ -129,20 +131,20 @@ module _ {M : Machine} {past : List ℕ} (started : Started M past) where
 
   -- ---- a number that its looks do not give is not its answer
 
-  unanswered_by : (k : ℕ) → (0 ≡ k → ⊥) → (s : State) (reply : List ℕ) → (replay_look M s reply ≡ Err k → ⊥) → (o : Outcome (List Write)) → replay_look M s reply ≡ o
-      → number_of (of_step (step_answer M s (joins s reply o))) ≡ k → ⊥
+  unanswered_by : (k : Refusal) → (0 ≡ refusal_number k → ⊥) → (s : State) (reply : List ℕ) → (replay_look M s reply ≡ Err k → ⊥) → (o : Outcome (List Write)) → replay_look M s reply ≡ o
+      → number_of (of_step (step_answer M s (joins s reply o))) ≡ refusal_number k → ⊥
   unfolding ◌>>=◌
   unanswered_by k some s reply never (Ok ws) e = some
-  unanswered_by k some s reply never (Err n) e = λ z. never (e ∙ ap Err z)
+  unanswered_by k some s reply never (Err n) e = λ z. never (e ∙ ap Err (same_refusal z))
 
-  pub forward_unanswered : (k : ℕ) → (0 ≡ k → ⊥) → (s : State) (reply : List ℕ) → (replay_look M s reply ≡ Err k → ⊥)
-      → number_of (of_step (step_answer M s (joins s reply (replay_look M s reply)))) ≡ k → ⊥
+  pub forward_unanswered : (k : Refusal) → (0 ≡ refusal_number k → ⊥) → (s : State) (reply : List ℕ) → (replay_look M s reply ≡ Err k → ⊥)
+      → number_of (of_step (step_answer M s (joins s reply (replay_look M s reply)))) ≡ refusal_number k → ⊥
   forward_unanswered k some s reply never = unanswered_by k some s reply never (replay_look M s reply) refl
 
   -- "No call in it met an operand without a rule"
   pub forward-ruled : (s : State) (reply : List ℕ) → InProgram M s.history → replay_look M s reply ≡ Err no_rule → ⊥
   forward-ruled s reply l e =
-      let r = refused_by_row M started.prepared s reply no_rule (omega arith) (λ ws l o full. omega arith) e in
+      let r = refused_by_row M started.prepared s reply no_rule (λ q. cc) (λ ws l o full q. cc) e in
       started.sound.ruled (cells_at M s) (row_at M s) reply (typed_after started s.history l) r.row r.outcome_is
 
   -- ---- "a CALL changed only cells of regions in its write set"

@@ -119,7 +119,7 @@ module _ (M : Machine) (laid : Laid M.tables.regions) where
     -- no row is refused with it, and there is room for what one writes
     never_full : {past : List ℕ} → Started M past → InProgram M s.history → replay_look M s reply ≡ Err journal_full → ⊥
     never_full started l e =
-        let r = refused_by_row M started.prepared s reply journal_full (omega arith)
+        let r = refused_by_row M started.prepared s reply journal_full (λ q. cc)
         (λ ws h o full z. false≢true (sym full ∙ le-leb (used_at M s + (length ws + 1)) (entries_of M.journal_words) (room l ws h o))) e in
         started.sound.journal_apart (cells_at M s) (row_at M s) reply (typed_after started s.history l) r.row r.outcome_is
 
@@ -144,7 +144,7 @@ module _ (t : Tables) (sound : Sound t) (memory journal : List ℕ) (a : Accepts
     number = ap (length_answer t.instructions) a.verdict;
     never_full = λ straight long.
         subst (Each NotFull) (sym (same t sound memory journal a calls))
-        (none_answers begun journal_full (omega arith) (omega arith) (λ s reply. never_full M laid straight long s reply begun) calls fresh journal (begins t sound memory journal a));
+        (none_answers begun journal_full (omega arith) (λ q. cc) (λ s reply. never_full M laid straight long s reply begun) calls fresh journal (begins t sound memory journal a));
     passed = λ straight.
         subst (λ (z : Session). z.position.used ≤ entries_before t.instructions z.position.row) (sym (ended t sound memory journal a calls))
         (used-passed M laid straight h (within t sound memory journal a calls).steps);

@@ -8,3 +8,4 @@ pub mod Sequence
 pub mod JournalLength
 pub mod StepEntries
 pub mod Top
+pub mod RefusalLaws

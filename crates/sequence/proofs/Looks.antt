@@ -8,6 +8,7 @@ use native.Mathlib.Omega.{arith}
 use lib.Dec.{ltb, leb}
 use lib.ListN.{length}
 use borrow.Author.Tests.{ltb-true, leb-true, leb-false, le-leb, lt-leb}
+use Rattle.tables.specs.declared.refusal.Refusal.{Refusal}
 use Rattle.tables.specs.Refusal.{at_end, journal_full}
 use Rattle.tables.specs.Outcome.{Outcome, ◌>>=◌, ◌>>◌, need}
 use Rattle.tables.specs.Rows.{instruction_rows}
@@ -21,12 +22,12 @@ use Rattle.session_forward.specs.Forward.{step_look}
 use Rattle.sequence.specs.Replay.{Machine, State, row_at, cells_at, used_at, position_at, looks_first, replay_look}
 
 -- a refusal k of a look that is not refused with k itself
-pub passed_over : {B : Type 0} (b : Bool) (n k : ℕ) (s : Outcome B) → (n ≡ k → ⊥) → (need b n >> s) ≡ Err k → (b ≡ true) × (s ≡ Err k)
+pub passed_over : {B : Type 0} (b : Bool) (n k : Refusal) (s : Outcome B) → (n ≡ k → ⊥) → (need b n >> s) ≡ Err k → (b ≡ true) × (s ≡ Err k)
 unfolding ◌>>◌ need
 passed_over true n k s ne e = (refl, e)
 passed_over false n k s ne e = absurd (ne (cc))
 
-bound_over : {A B : Type 0} (s : Outcome A) (f : A → Outcome B) (k : ℕ) → ((a : A) → s ≡ Ok a → f a ≡ Err k → ⊥) → (s >>= f) ≡ Err k → s ≡ Err k
+bound_over : {A B : Type 0} (s : Outcome A) (f : A → Outcome B) (k : Refusal) → ((a : A) → s ≡ Ok a → f a ≡ Err k → ⊥) → (s >>= f) ≡ Err k → s ≡ Err k
 unfolding ◌>>=◌
 bound_over (Ok a) f k never e = absurd (never a refl e)
 bound_over (Err n) f k never e = cc
@@ -75,11 +76,11 @@ module _ (M : Machine) {n : ℕ} (prepared : looks_first M ≡ Ok n) (s : State)
             (leb-true (used_at M s + (length b.value + 1)) (entries_of M.journal_words) fits);
       }
 
-  pub record RowRefused (k : ℕ) : Type 0 where
+  pub record RowRefused (k : Refusal) : Type 0 where
     pub row : row_at M s < instruction_rows M.tables.instructions
     pub outcome_is : outcome ≡ Err k
 
-  room_over : (k : ℕ) (ws : List Write) → (room ws ≡ false → journal_full ≡ k → ⊥) → (need (room ws) journal_full >> Ok ws) ≡ Err k → ⊥
+  room_over : (k : Refusal) (ws : List Write) → (room ws ≡ false → journal_full ≡ k → ⊥) → (need (room ws) journal_full >> Ok ws) ≡ Err k → ⊥
   unfolding ◌>>◌ need
   room_over k ws full e = at (room ws) refl e
     where
@@ -88,7 +89,7 @@ module _ (M : Machine) {n : ℕ} (prepared : looks_first M ≡ Ok n) (s : State)
       at false r e = full r (cc)
 
   -- a number that is not 11, nor 13 for want of room, is the row's
-  pub refused_by_row : (k : ℕ) → (at_end ≡ k → ⊥) → ((ws : List Write) → row_at M s < instruction_rows M.tables.instructions → outcome ≡ Ok ws → room ws ≡ false → journal_full ≡ k → ⊥)
+  pub refused_by_row : (k : Refusal) → (at_end ≡ k → ⊥) → ((ws : List Write) → row_at M s < instruction_rows M.tables.instructions → outcome ≡ Ok ws → room ws ≡ false → journal_full ≡ k → ⊥)
       → replay_look M s reply ≡ Err k → RowRefused k
   refused_by_row k ended full e =
       let (here_is, e₁) = passed_over here at_end k _ ended (sym look_is ∙ e) in

@@ -7,7 +7,9 @@ use mathlib.Core.Path.{◌≡◌, refl, sym, ap, ap₂, ◌∙◌, subst}
 use native.Mathlib.Omega.{arith}
 use lib.ListN.{length, take, drop, length-drop}
 use lib.Seq.{take_at}
-use Rattle.tables.specs.Refusal.{nothing_to_take_back, no_rule}
+use Rattle.sequence.proofs.RefusalLaws.{same_refusal}
+use Rattle.tables.specs.declared.refusal.Refusal.{Refusal}
+use Rattle.tables.specs.Refusal.{refusal_number, nothing_to_take_back, no_rule}
 use Rattle.tables.specs.Outcome.{Outcome, ◌>>=◌}
 use Rattle.tables.specs.Tables.{Tables}
 use Rattle.tables.specs.Cells.{cell_count}
@@ -109,18 +111,18 @@ module _ {M : Machine} {past : List ℕ} (started : Started M past) where
 
   -- ---- a number that is neither 0 nor 12 and that no forward's looks give is no answer of a list
 
-  module _ (k : ℕ) (some : 0 ≡ k → ⊥) (last : nothing_to_take_back ≡ k → ⊥)
+  module _ (k : Refusal) (some : 0 ≡ refusal_number k → ⊥) (last : nothing_to_take_back ≡ k → ⊥)
       (never : (s : State) (reply : List ℕ) → InProgram M s.history → replay_look M s reply ≡ Err k → ⊥) where
-    back_unanswered : (h : History) → number_of (replay_answer M back (record { history = h })) ≡ k → ⊥
-    back_unanswered [] = rw (none_dropped started) last
+    back_unanswered : (h : History) → number_of (replay_answer M back (record { history = h })) ≡ refusal_number k → ⊥
+    back_unanswered [] = rw (none_dropped started) (λ z. last (same_refusal z))
     back_unanswered (reply ∷ h) = rw (last_dropped started reply h) some
 
-    unanswered : (c : Call) (s : State) → InProgram M s.history → number_of (replay_answer M c s) ≡ k → ⊥
+    unanswered : (c : Call) (s : State) → InProgram M s.history → number_of (replay_answer M c s) ≡ refusal_number k → ⊥
     unfolding replayed
     unanswered (forward reply) s l = forward_unanswered started k some s reply (never s reply l)
     unanswered back s l = back_unanswered s.history
 
-    pub none_answers : (cs : List Call) (s : State) (rest : List ℕ) → Within M s rest → Each (λ a. number_of a ≡ k → ⊥) (replay_answers M cs s)
+    pub none_answers : (cs : List Call) (s : State) (rest : List ℕ) → Within M s rest → Each (λ a. number_of a ≡ refusal_number k → ⊥) (replay_answers M cs s)
     unfolding replay_answers
     none_answers [] s rest w = none
     none_answers (c ∷ cs) s rest w = let f = follows c s rest w in also (unanswered c s w.steps) (none_answers cs (replay_next M c s) f.rest' f.within)
@@ -176,7 +178,7 @@ module _ (t : Tables) (sound : Sound t) (memory journal : List ℕ) (a : Accepts
     pub faithful : Faithful t memory journal calls
     faithful = record {
       kinds = subst (λ (z : Session). Typed t.regions (take (2 * cell_count t.regions) z.memory)) (sym ended) (typed_at started state agreed.rest' within);
-      ruled = subst (Each Ruled) (sym same) (none_answers started no_rule (omega arith) (omega arith) (forward-ruled started) calls fresh journal begins);
+      ruled = subst (Each Ruled) (sym same) (none_answers started no_rule (omega arith) (λ q. cc) (forward-ruled started) calls fresh journal begins);
       framed = subst (Framed t calls) (sym opened_is) agreed.all-framed;
       answers_are = same;
       memory_is = ap (λ (z : Session). z.memory) ended;

@@ -3,6 +3,7 @@ use Rattle.session.specs.Answer.{OpenAnswer}
 use Rattle.type_rules.specs.declared.error.ProgramError.TheVariants as P
 use Rattle.type_rules.specs.declared.error.TypeError.{TypeError}
 use Rattle.std.specs.Prelude.{ℕ, ◌-◌, ◌^◌, List, [], ◌∷◌, ◌++◌, ◌≡◌, refl, Result, Ok, Err}
+use Rattle.tables.specs.declared.refusal.Refusal.{Refusal}
 use Rattle.tables.specs.Bench.{a, n, o, r, q}
 use Rattle.tables.specs.Refusal.{at_end, journal_full, index_past_length, negative_shift_count, unfit_literal}
 use Rattle.words.specs.Kind.{bit, integer, octet, real, real_literal}
@@ -28,8 +29,8 @@ step = forward []
 abbrev moved : ℕ → ℕ → Answer
 moved done used = of_step (Ok (record { row = done; done = done; used = used }))
 
-abbrev refused : ℕ → ℕ → ℕ → Answer
-refused number done used = of_step (Err (number, record { row = done; done = done; used = used }))
+abbrev refused : Refusal → ℕ → ℕ → Answer
+refused r done used = of_step (Err (r, record { row = done; done = done; used = used }))
 
 -- a[0], a[1], n[0] to n[2], o[0], r[0], r[1]: kind and word; n[0], o[0], r[0] and r[1] as given, 0 elsewhere
 abbrev cells : ℕ → ℕ → ℕ → ℕ → List ℕ

@@ -1,7 +1,7 @@
 -- Demand 3: what is claimed of every list of calls after an accepted open. To be read without the proofs; Top.antt in proofs/ has the theorem.
 -- The quoted sentences are the demand's, where 01 is not named.
 use Rattle.std.specs.Prelude.{◌≡◌, true, false, List, [], ◌∷◌, ◌++◌, ℕ, ◌*◌, ◌^◌, ◌<◌, length, get_or, take, drop, Ok}
-use Rattle.tables.specs.Refusal.{no_rule}
+use Rattle.tables.specs.Refusal.{refusal_number, no_rule}
 use Rattle.tables.specs.Tables.{Tables}
 use Rattle.tables.specs.Rows.{region_name, instruction_at}
 use Rattle.tables.specs.Cells.{cell_count}
@@ -23,7 +23,7 @@ use Rattle.sequence.specs.Journal.{journal_at, used_entries}
 
 -- 01: "To meet an operand without a rule is to be refused with 18."
 abbrev pub Ruled : Answer → Type 0
-Ruled a = number_of a ≡ no_rule → ⊥
+Ruled a = number_of a ≡ refusal_number no_rule → ⊥
 
 -- no region in the row's write set has the cell
 abbrev pub Spared : Tables → Instruction → ℕ → Type 0

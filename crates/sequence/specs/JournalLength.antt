@@ -1,7 +1,7 @@
 -- 02, P2, P4 and P5: what is claimed of a journal's length after an accepted open, and of the entries that a step uses. To be read without the proofs; Top.antt in proofs/ has the theorems.
 -- The quoted sentences are 02's.
 use Rattle.std.specs.Prelude.{◌≡◌, true, false, List, ℕ, ◌+◌, ◌^◌, ◌<◌, ◌≤◌, length, get_or, Ok}
-use Rattle.tables.specs.Refusal.{journal_full}
+use Rattle.tables.specs.Refusal.{refusal_number, journal_full}
 use Rattle.tables.specs.Tables.{Tables}
 use Rattle.tables.specs.Rows.{instruction_rows, instruction_at}
 use Rattle.labels.specs.Labels.{is_jump}
@@ -19,7 +19,7 @@ use Rattle.sequence.specs.Claim.{session, ending}
 
 -- an answer that is not "refusal 13"
 abbrev pub NotFull : Answer → Type 0
-NotFull a = number_of a ≡ journal_full → ⊥
+NotFull a = number_of a ≡ refusal_number journal_full → ⊥
 
 -- P4: "P2's sum holds without jumps": no row is a JUMP, JUMP-WHEN or JUMP-UNLESS
 abbrev pub NoJumps : Tables → Type 0
