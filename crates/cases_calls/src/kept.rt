@@ -8,6 +8,7 @@ use console_c::reference::console_reference;
 use console_c::references::console_references;
 use console_c::resolve::console_resolve;
 use loader::load::load_row;
+use tables::refusal::Refusal;
 
 pub fn check(tables: &[u64], error: &mut [u64; 6]) {
     let number = console_check(
@@ -105,7 +106,7 @@ pub fn references(tables: &[u64], rows: &mut [u64], place: &mut [u64; 1], count:
 fn number_of(look: Result<(), Refusal>) -> u64 {
     match look {
         Ok(()) => 0,
-        Err(number) => number,
+        Err(refusal) => refusal.number(),
     }
 }
 

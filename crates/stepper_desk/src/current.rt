@@ -9,25 +9,16 @@ use stepper_words::names::NAME_WORDS;
 use tables::family::CALL;
 use tables::rows::{INSTRUCTION_WIDTH, Instruction, instruction_at};
 
-// A row of the program, or its end.
-#[derive(Drop)]
-pub enum Current {
-    Row(Instruction),
-    End,
-}
-
-pub fn row_at(instructions: &[u64], row: usize) -> Current {
+// A row of the program, or nothing at its end.
+pub fn row_at(instructions: &[u64], row: usize) -> Option<Instruction> {
     if row < instructions.len() / INSTRUCTION_WIDTH {
-        return Current::Row(instruction_at(instructions, row));
+        return Some(instruction_at(instructions, row));
     }
-    Current::End
+    None
 }
 
 pub fn is_call(instructions: &[u64], row: usize) -> bool {
-    match row_at(instructions, row) {
-        Current::Row(x) => x.family == CALL,
-        Current::End => false,
-    }
+    row_at(instructions, row).is_some_and(|x| x.family == CALL)
 }
 
 // The row as on the screen.

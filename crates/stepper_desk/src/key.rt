@@ -2,7 +2,7 @@
 use crate::state::{Desk, State};
 use script::line::{part, word_at};
 use stepper_lines::print::{style, text};
-use stepper_tables::word::{Written, integer};
+use stepper_tables::word::integer;
 
 // What a key asks for. The empty line is forward; a run has its allowance, so many steps, or none that can be read.
 #[derive(Clone, Copy)]
@@ -61,10 +61,7 @@ fn run_by(line: &[u8], at: usize) -> Key {
     if more.start < more.end || steps.starts_with(b"-") {
         return Key::NoAllowance;
     }
-    match integer(steps) {
-        Written::Word(allowance) => Key::Run(allowance),
-        Written::Not(_) => Key::NoAllowance,
-    }
+    integer(steps).map_or(Key::NoAllowance, Key::Run)
 }
 
 // The line's key: its first word, where that is one byte.

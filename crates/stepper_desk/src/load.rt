@@ -11,9 +11,8 @@ use std::io::Read;
 use std::rt::Files;
 use std::str::from_utf8;
 use stepper_lines::print::text;
-use stepper_tables::file::{Memory, Reader, TABLE_WORDS, read_file};
+use stepper_tables::file::{Reader, TABLE_WORDS, read_file};
 use stepper_tables::held::table;
-use stepper_tables::row::Outcome;
 use stepper_words::heading::Table;
 use stepper_words::names::NAME_WORDS;
 use tables::cells::{CELL_LIMIT, cell_count};
@@ -22,19 +21,7 @@ use tables::cells::{CELL_LIMIT, cell_count};
 fn cells_of(regions: &[u64]) -> usize
     ensures { result ≤ 4096 }
 {
-    let Ok(cells) = cell_count(regions) else {
-        return CELL_LIMIT;
-    };
-    cells
-}
-
-fn memory_words(memory: Memory, cells: usize) -> usize
-    requires { cells ≤ 4096 }
-{
-    match memory {
-        Memory::Enough => cells * CELL_WIDTH,
-        Memory::Words(words) => words,
-    }
+    cell_count(regions).unwrap_or(CELL_LIMIT)
 }
 
 // Memory and journal as asked for; the memory exactly enough for the cells where nothing is asked.
@@ -44,7 +31,7 @@ fn lent(desk: Desk, reader: Reader, cells: usize) -> Desk
     let lengths = reader.lengths;
     Desk {
         lengths,
-        memory: memory_words(reader.memory, cells),
+        memory: reader.memory.unwrap_or(cells * CELL_WIDTH),
         journal: reader.entries.min(JOURNAL_WORDS / ENTRY_WIDTH) * ENTRY_WIDTH,
         view: desk.view.with_names(reader.names),
         state: State::Opened,
@@ -60,12 +47,12 @@ fn read_tables(
 ) -> Desk {
     let reader = read_file(source, names, tables);
     match reader.outcome {
-        Outcome::Taken => lent(
+        Ok(()) => lent(
             desk,
             reader,
             cells_of(table(tables, Table::Regions, reader.lengths)),
         ),
-        Outcome::Not(trouble) => turned_down(desk, source, reader, trouble),
+        Err(trouble) => turned_down(desk, source, reader, trouble),
     }
 }
 

@@ -2,6 +2,7 @@
 use journal::position::Position;
 use stepper_lines::view::View;
 use stepper_tables::file::TABLES;
+use tables::refusal::Refusal;
 
 pub const MEMORY_WORDS: usize = 8200;
 
@@ -14,7 +15,7 @@ pub const TEXT_BYTES: usize = 65536;
 pub enum State {
     NoFile,
     Opened,
-    Refused(u64),
+    Refused(Refusal),
 }
 
 // How long a journal is enough for every order of keys: so many entries; none is sure to be, where the rows count more than a journal has or one of them is a jump; untold of a program that is turned down whatever is lent.
