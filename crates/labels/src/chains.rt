@@ -54,6 +54,7 @@ pub fn labelled_row(
     let b = bucket(label);
     let mut before = n;
     let mut row = usize::from(heads[b]);
+    // A while: no count is known, since the chain ends where the words say so.
     while is_chained(instructions, before, b, row) {
         if has_label(instructions, row, label) {
             return row;

@@ -59,6 +59,7 @@ fn read_tables(
 // Reads until the buffer is full, the file ends or a read fails; how many bytes.
 fn read_full(file: &mut impl Read, buffer: &mut [u8; TEXT_BYTES]) -> usize {
     let mut count = 0;
+    // A while: a read gives as many bytes as it likes.
     while count < TEXT_BYTES {
         let more = file.read(&mut buffer[count..]).unwrap_or(0);
         if more == 0 {

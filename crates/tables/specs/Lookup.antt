@@ -1,5 +1,5 @@
 -- "A name is a number; equal names are equal numbers." A name's row is the first that has it; a row's name is its first word.
-use Rattle.std.specs.Prelude.{ℕ, ◌*◌, Bool, true, false, not, List, get_or, eqb, Option, Some, None}
+use Rattle.std.specs.Prelude.{ℕ, ◌*◌, Bool, not, List, get_or, eqb, Option, Some, None}
 use Rattle.std.specs.Option.{is_some}
 use Rattle.tables.specs.First.{first, every}
 use Rattle.tables.specs.Rows.{rows_of, region_width, extern_width}

@@ -1,4 +1,5 @@
 // The families of instructions, by number.
+// Numbers and no enum: the word of a lent table may be any, and what is said of a row is said of every word.
 pub const ARITHMETIC: u64 = 0;
 
 pub const COMPARISON: u64 = 1;

@@ -1,4 +1,5 @@
 // The tags of nodes, by number.
+// Numbers and no enum: the word of a lent table may be any, and what is said of a row is said of every word.
 pub const ADDRESS: u64 = 0;
 
 pub const FUNCTION_CALL: u64 = 1;

@@ -1,4 +1,5 @@
 // Each family's operators, by number.
+// Numbers and no enum: the word of a lent table may be any, and what is said of a row is said of every word.
 
 // Arithmetic.
 pub const ADD: u64 = 0;

@@ -1,4 +1,5 @@
 // 01's numbers in a type error, as specs/Numbers.antt names them: its kind, its codes, its spots.
+// Numbers and no enum: they are words of what the C interface hands out, and the definitions hold them as the papers do.
 pub const UNDEFINED: u64 = 1;
 
 pub const DATA_TYPE: u64 = 2;

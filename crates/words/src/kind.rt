@@ -1,4 +1,5 @@
 // The kinds of cells, and which words each holds.
+// Numbers and no enum: the word of a lent table may be any, and what is said of a row is said of every word.
 #![tactic(auto, unfolding(crate::specs::Kind::width_of, crate::specs::Kind::fits_kind))]
 
 ghost use Rattle.std.specs.Prelude.{◌≡◌};
