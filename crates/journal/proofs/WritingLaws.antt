@@ -55,11 +55,3 @@ module _ (cells₀ journal₀ : List ℕ) (used : ℕ) (ws : List Write) (cells 
             ∙ ap₂ (λ (j : List ℕ) (n : ℕ). entered j (used + n) (closing n row)) all n
             ∙ sym (entered-append journal₀ used (length ws) (log cells₀ ws) (closing (length ws) row) (length-log cells₀ ws)),
       )
-
--- the first `write_cell`, at entry used
-pub writing_first : (cells journal : List ℕ) (used : ℕ) (w : Write) (more : List Write) (cells' journal' : List ℕ)
-    → cells' ≡ put cells w → journal' ≡ entered journal used (words_of (held cells w.cell))
-    → Writing cells journal used (w ∷ more) cells' journal' 1 more
-writing_first cells journal used w more cells' journal' ec ej =
-    writing_turn cells journal used (w ∷ more) cells journal 0 (w ∷ more) (writing_start cells journal used (w ∷ more)) cells' journal' w more refl ec
-    (ej ∙ ap (λ (e : ℕ). entered journal e (words_of (held cells w.cell))) (sym (add-zero used)))

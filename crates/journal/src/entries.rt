@@ -1,14 +1,15 @@
 // A step's entries in the lent journal, three words each: one for every write, then the closing entry.
 #![tactic(auto, unfolding(crate::specs::Entries::closing, crate::specs::Entries::entered))]
 
-ghost use Rattle.std.specs.Prelude.{◌≡◌, [], ◌∷◌, ◌+◌, ◌*◌, ◌≤◌, ◌<◌, length};
-ghost use Rattle.journal.specs.Cells.{cell_width, put, held, applied};
-ghost use Rattle.journal.specs.Entries.{entry_width, words_of, closing, changes_at, row_left_at, entered, journaled};
+ghost use Rattle.std.specs.Prelude.{◌≡◌, [], ◌∷◌, ◌+◌, ◌*◌, ◌<◌, length};
+ghost use Rattle.journal.specs.Cells.{cell_width, put, held};
+ghost use Rattle.journal.specs.Entries.{entry_width, words_of, closing, changes_at, row_left_at, entered};
 
 use crate::cells::{CELL_WIDTH, Write, put_cell};
 
 // Words in an entry.
 pub const ENTRY_WIDTH: usize = 3;
+
 // The most entries of a journal.
 pub const ENTRY_LIMIT: usize = 2048;
 
@@ -56,32 +57,4 @@ pub fn row_left_at(journal: &[u64], entry: usize) -> usize
     ensures { result ≡ row_left_at journal.now entry }
 {
     journal[ENTRY_WIDTH * entry + 1] as usize
-}
-
-// A step of one write, with its closing entry.
-pub fn write_one(cells: &mut [u64], journal: &mut [u64], used: usize, row: usize, w: Write)
-    requires { (cell_width * w.cell + 1 < length cells.old) × (entry_width * (used + 2) ≤ length journal.old) }
-    ensures cells_after { cells.new ≡ applied cells.old (w ∷ []) }
-    ensures journal_after { journal.new ≡ journaled journal.old used row cells.old (w ∷ []) }
-{
-    write_cell(cells, journal, used, w);
-    close(journal, used + 1, 1, row);
-}
-
-// A step of two writes, made in this order, with its closing entry.
-pub fn write_two(
-    cells: &mut [u64],
-    journal: &mut [u64],
-    used: usize,
-    row: usize,
-    v: Write,
-    w: Write,
-)
-    requires { (cell_width * v.cell + 1 < length cells.old) × (cell_width * w.cell + 1 < length cells.old) × (entry_width * (used + 3) ≤ length journal.old) }
-    ensures cells_after { cells.new ≡ applied cells.old (v ∷ w ∷ []) }
-    ensures journal_after { journal.new ≡ journaled journal.old used row cells.old (v ∷ w ∷ []) }
-{
-    write_cell(cells, journal, used, v);
-    write_cell(cells, journal, used + 1, w);
-    close(journal, used + 2, 2, row);
 }

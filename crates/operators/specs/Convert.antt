@@ -1,6 +1,6 @@
 -- 02, P5, CONVERT: which kinds have a rule, its result, and which declared kinds open passes. The quoted sentences are 02's.
 use Rattle.std.specs.Option.{ok_or}
-use Rattle.std.specs.Prelude.{ℕ, Bool, false, not, cond, ◌||◌, ◌&&◌, List, eqb, Option, Some, None, Ok, Err}
+use Rattle.std.specs.Prelude.{ℕ, Bool, false, not, cond, ◌||◌, ◌&&◌, List, eqb, Option, Some, None, Ok}
 use Rattle.words.specs.Kind.{integer, real}
 use Rattle.words.specs.Convert.{integer_to_real, real_to_integer}
 use Rattle.tables.specs.Family as family

@@ -1,6 +1,6 @@
 -- Which operand kinds have a rule, and the result of each operator. The loader lets no other operator pass: the rest of each definition by operators, 0 or false, is never reached.
 use Rattle.std.specs.Option.{ok_or}
-use Rattle.std.specs.Prelude.{ℕ, Bool, false, cond, ◌||◌, ◌&&◌, List, [], ◌∷◌, eqb, ltb, Option, Some, None, Ok, Err}
+use Rattle.std.specs.Prelude.{ℕ, Bool, false, cond, ◌||◌, ◌&&◌, List, [], ◌∷◌, eqb, ltb, Option, Ok}
 use Rattle.words.specs.Kind.{integer, real, integer_literal, real_literal, width_of}
 use Rattle.words.specs.Integer as Z
 use Rattle.reals.specs.Real as R
