@@ -78,8 +78,8 @@ pub fn show_answer(
             show_errors(names, view, rows, count);
             0
         }
-        Err(ResolveError::Refused(number)) => {
-            refused(number, view);
+        Err(ResolveError::Refused(refusal)) => {
+            refused(refusal, view);
             0
         }
     }
