@@ -3,8 +3,6 @@ use tables::lookup::lookup_region;
 use tables::rows::region_at;
 
 pub fn kind_of(regions: &[u64], name: u64) -> Option<u64> {
-    let Some(r) = lookup_region(regions, name) else {
-        return None;
-    };
+    let r = lookup_region(regions, name)?;
     Some(region_at(regions, r).kind)
 }

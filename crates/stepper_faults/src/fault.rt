@@ -57,7 +57,6 @@ pub enum Where {
     SameName(Table, u64, usize, usize),
     Jump(Row, Jump),
     Conversion(Row, Conversion),
-    Nowhere,
 }
 
 impl Where {
@@ -73,7 +72,6 @@ impl Where {
             | Where::Whole(row)
             | Where::Jump(row, _)
             | Where::Conversion(row, _) => row.table,
-            Where::Nowhere => Table::Regions,
         }
     }
 }

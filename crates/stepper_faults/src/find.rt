@@ -8,14 +8,14 @@ use crate::word::find_word;
 use tables::refusal::Refusal;
 
 pub fn find(
-    refusal: u64,
+    refusal: Refusal,
     regions: &[u64],
     externs: &[u64],
     parameters: &[u64],
     nodes: &[u64],
     arguments: &[u64],
     instructions: &[u64],
-) -> Where {
+) -> Option<Where> {
     let program = Program {
         regions,
         externs,
@@ -24,7 +24,7 @@ pub fn find(
         arguments,
         instructions,
     };
-    let found = match refusal {
+    match refusal {
         Refusal::TableShape => find_shape(program),
         Refusal::WordNotAllowed => find_word(program),
         Refusal::NameTwice => find_name(program),
@@ -32,6 +32,5 @@ pub fn find(
         Refusal::ConditionNotBit => find_condition(regions, instructions),
         Refusal::UnfitConversion => find_conversion(regions, instructions),
         _ => None,
-    };
-    found.unwrap_or(Where::Nowhere)
+    }
 }

@@ -49,7 +49,7 @@ fn in_brackets(word: &[u8]) {
 }
 
 // What a student knows a row by: its name, tag or mnemonic.
-fn known_by(names: Result<NamedRegions, Refusal>, table: Table, words: [u64; ROW_WORDS]) {
+fn known_by(names: Names, table: Table, words: [u64; ROW_WORDS]) {
     match table {
         Table::Nodes => in_brackets(item(&NODES, words[0])),
         Table::Arguments => {}
@@ -62,7 +62,7 @@ fn known_by(names: Result<NamedRegions, Refusal>, table: Table, words: [u64; ROW
     }
 }
 
-pub fn row_head(names: Result<NamedRegions, Refusal>, row: Row, words: [u64; ROW_WORDS]) {
+pub fn row_head(names: Names, row: Row, words: [u64; ROW_WORDS]) {
     heading(row.table);
     text(b", row ");
     number(row.number as u64);

@@ -1,7 +1,7 @@
 // Where a refusal lies, in words. No line is longer than 80 columns, whatever the words are.
 use crate::allowed::{Allowed, words_at};
 use crate::fault::{Range, Row, Where};
-use crate::known::{heading, row_head};
+use crate::known::{Names, heading, row_head};
 use crate::row::whole_row;
 use crate::tell_convert::tell_convert;
 use crate::tell_jump::tell_jump;
@@ -113,7 +113,7 @@ fn tell_row(at: Where, words: [u64; ROW_WORDS]) {
     }
 }
 
-fn tell_in_row(names: Result<NamedRegions, Refusal>, at: Where, row: Row, table: &[u64]) {
+fn tell_in_row(names: Names, at: Where, row: Row, table: &[u64]) {
     let words = table.chunks(row.table.width()).nth(row.number);
     let words = whole_row(words.unwrap_or(&[]));
     row_head(names, row, words);
@@ -144,7 +144,7 @@ fn tell_rows(which: Table, rows: usize, limit: usize) {
     grouped(limit);
 }
 
-fn tell_pair(names: Result<NamedRegions, Refusal>, which: Table, n: u64, first: usize, second: usize) {
+fn tell_pair(names: Names, which: Table, n: u64, first: usize, second: usize) {
     heading(which);
     text(b", rows ");
     number(first as u64);
@@ -175,7 +175,6 @@ pub fn tell(source: &[u8], names: &[u64; NAME_WORDS], view: View, at: Where, tab
         | Where::Whole(row)
         | Where::Jump(row, _)
         | Where::Conversion(row, _) => tell_in_row(names, at, row, table),
-        Where::Nowhere => return,
     }
     byte(b'\n');
 }

@@ -1,16 +1,17 @@
 // What is wrong with a jump, after its row: a refusal 20 or 21.
 use crate::fault::Jump;
+use crate::known::Names;
 use stepper_lines::print::{byte, text};
 use stepper_words::list::item;
 use stepper_words::vocabulary::KINDS;
 
-fn condition(names: Result<NamedRegions, Refusal>, name: u64) {
+fn condition(names: Names, name: u64) {
     text(b":\n  the condition (");
     names.show(name);
     text(b") is ");
 }
 
-pub fn tell_jump(names: Result<NamedRegions, Refusal>, wrong: Jump) {
+pub fn tell_jump(names: Names, wrong: Jump) {
     match wrong {
         Jump::NoTarget(label) => {
             text(b":\n  no LABEL row has its label (@");

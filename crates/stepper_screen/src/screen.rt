@@ -4,7 +4,7 @@ use crate::named::named_regions;
 use crate::regions::region_lines;
 use journal::entries::ENTRY_WIDTH;
 use script::line::part;
-use stepper_desk::current::{Current, row_at};
+use stepper_desk::current::row_at;
 use stepper_desk::state::{Desk, MEMORY_WORDS, TEXT_BYTES};
 use stepper_lines::print::{byte, counted, number, text};
 use stepper_lines::program::program_rows;
@@ -47,13 +47,13 @@ fn named(tables: &[u64; TABLE_WORDS], desk: Desk) -> [bool; REGION_LIMIT] {
     let lengths = desk.lengths;
     let instructions = table(tables, Table::Instructions, lengths);
     match row_at(instructions, desk.position.row) {
-        Current::Row(x) => named_regions(
+        Some(x) => named_regions(
             table(tables, Table::Regions, lengths),
             table(tables, Table::Nodes, lengths),
             table(tables, Table::Arguments, lengths),
             x,
         ),
-        Current::End => [false; REGION_LIMIT],
+        None => [false; REGION_LIMIT],
     }
 }
 

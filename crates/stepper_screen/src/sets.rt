@@ -4,6 +4,7 @@ use stepper_lines::line::Line;
 use stepper_lines::refusal::refused;
 use stepper_lines::view::View;
 use stepper_words::names::{NAME_WORDS, word_of};
+use tables::refusal::Refusal;
 
 pub const SET_WORDS: usize = 1024;
 
@@ -46,7 +47,7 @@ pub fn show_sets(
             set_line(line.text(b"  reads"), source, names, reads, read);
             set_line(line.text(b"  writes"), source, names, writes, written)
         }
-        Err(number) => refused(number, view),
+        Err(refusal) => refused(refusal, view),
     }
 }
 

@@ -28,6 +28,19 @@ const DETAILS: usize = 4;
 // Lines of argument errors that are shown, unless all are.
 const LINES: usize = 4;
 
+// The text of the names, and where each stands in it.
+#[derive(Clone, Copy)]
+pub(crate) struct Names<'a> {
+    pub source: &'a [u8],
+    pub places: &'a [u64; NAME_WORDS],
+}
+
+impl Names<'_> {
+    pub fn name(self, line: Line, n: u64) -> Line {
+        line.name(self.source, self.places, n)
+    }
+}
+
 // The operand that an error names: from 1 a row's, then an expression's nodes.
 fn spot(n: u64) {
     if n >= NODE {
@@ -123,34 +136,24 @@ fn mismatched_scalar(line: Line, details: [u64; DETAILS]) -> Line {
 }
 
 // The line with the argument that was given.
-fn given(line: Line, source: &[u8], names: &[u64; NAME_WORDS], details: [u64; DETAILS]) -> Line {
-    argument(line.whole(), source, names, argument_of(details))
+fn given(line: Line, names: Names, details: [u64; DETAILS]) -> Line {
+    argument(
+        line.whole(),
+        names.source,
+        names.places,
+        argument_of(details),
+    )
 }
 
 // The six causes, by number; the details are the error row's last four words.
-fn cause(
-    line: Line,
-    source: &[u8],
-    names: &[u64; NAME_WORDS],
-    error: u64,
-    details: [u64; DETAILS],
-) -> Line {
+fn cause(line: Line, names: Names, error: u64, details: [u64; DETAILS]) -> Line {
     match error {
-        UNDECLARED => line
-            .name(source, names, details[0])
-            .text(b" is not declared"),
+        UNDECLARED => names.name(line, details[0]).text(b" is not declared"),
         MISMATCHED_VECTOR => mismatched_vector(line, details),
         MISMATCHED_SCALAR => mismatched_scalar(line, details),
-        INVALID_VECTOR => given(line.text(b"no vector is given: "), source, names, details),
-        RETURN_ARGUMENT => given(
-            line.text(b"the return needs memory, not "),
-            source,
-            names,
-            details,
-        ),
-        _ => line
-            .text(b"an immediate for the mutable ")
-            .name(source, names, details[0]),
+        INVALID_VECTOR => given(line.text(b"no vector is given: "), names, details),
+        RETURN_ARGUMENT => given(line.text(b"the return needs memory, not "), names, details),
+        _ => names.name(line.text(b"an immediate for the mutable "), details[0]),
     }
 }
 
@@ -162,23 +165,17 @@ fn place(line: Line, return_or_parameter: u64, index: u64) -> Line {
 }
 
 // An error's line, in whole names or shortened ones.
-fn error_line(
-    line: Line,
-    source: &[u8],
-    names: &[u64; NAME_WORDS],
-    error: u64,
-    details: [u64; DETAILS],
-) {
+fn error_line(line: Line, names: Names, error: u64, details: [u64; DETAILS]) {
     let headed = line.text(b"argument error ").number(error).text(b": ");
-    let whole = cause(headed, source, names, error, details);
+    let whole = cause(headed, names, error, details);
     if whole.fits() {
         whole.end();
     } else {
-        cause(headed.whole().shortened(), source, names, error, details).end();
+        cause(headed.whole().shortened(), names, error, details).end();
     }
 }
 
-fn error_row(source: &[u8], names: &[u64; NAME_WORDS], view: View, row: &[u64; ERROR_WIDTH]) {
+fn error_row(names: Names, view: View, row: &[u64; ERROR_WIDTH]) {
     let &[
         return_or_parameter,
         index,
@@ -189,21 +186,15 @@ fn error_row(source: &[u8], names: &[u64; NAME_WORDS], view: View, row: &[u64; E
         fourth,
     ] = row;
     let placed = place(Line::new(view), return_or_parameter, index);
-    error_line(placed, source, names, error, [first, second, third, fourth]);
+    error_line(placed, names, error, [first, second, third, fourth]);
 }
 
 // The error rows of a CALL, a line each.
-pub fn show_errors(
-    source: &[u8],
-    names: &[u64; NAME_WORDS],
-    view: View,
-    rows: &[u64],
-    count: usize,
-) {
+pub(crate) fn show_errors(names: Names, view: View, rows: &[u64], count: usize) {
     let lines = shown(view, count, LINES);
     let (errors, _) = rows.as_chunks::<ERROR_WIDTH>();
     for error in errors.iter().take(lines) {
-        error_row(source, names, view, error);
+        error_row(names, view, error);
     }
     left_out(view, lines, count, b" more errors: m, then r, shows all");
 }

@@ -11,6 +11,7 @@ use stepper_tables::file::TABLE_WORDS;
 use stepper_tables::held::table;
 use stepper_words::heading::Table;
 use stepper_words::names::NAME_WORDS;
+use tables::refusal::Refusal;
 
 // Where the tables are refused, by 1, 2, 3, 20, 21 or 22.
 pub fn explain_tables(
@@ -18,10 +19,10 @@ pub fn explain_tables(
     names: &[u64; NAME_WORDS],
     tables: &[u64; TABLE_WORDS],
     desk: Desk,
-    refusal: u64,
+    refusal: Refusal,
 ) {
     let lengths = desk.lengths;
-    let at = find(
+    let found = find(
         refusal,
         table(tables, Table::Regions, lengths),
         table(tables, Table::Externs, lengths),
@@ -30,8 +31,10 @@ pub fn explain_tables(
         table(tables, Table::Arguments, lengths),
         table(tables, Table::Instructions, lengths),
     );
-    let words = table(tables, at.table(), lengths);
-    tell(source, names, desk.view, at, words);
+    if let Some(at) = found {
+        let words = table(tables, at.table(), lengths);
+        tell(source, names, desk.view, at, words);
+    }
 }
 
 // The position that a step leaves, and its refusal in words.

@@ -7,20 +7,13 @@ use script::line::{byte_at, part, word_at};
 use stepper_desk::input::{LINE, ask, typed_line};
 use stepper_lines::print::{byte, style, text};
 use stepper_lines::view::View;
-use stepper_tables::word::{Fault, Written, decimal, integer};
+use stepper_tables::word::{Fault, decimal, integer};
 use words::kind::REAL;
 
 // One row more than a reply may have, so that one too long can be tried.
 const REPLY_ROWS: usize = REPLY_LIMIT + 1;
 
 pub const REPLY_WORDS: usize = REPLY_WIDTH * REPLY_ROWS;
-
-// A reply's length in words; or the input's end cut it short.
-#[derive(Drop)]
-pub enum Reply {
-    Words(usize),
-    CutShort,
-}
 
 // Nothing says that the lines of a reply end, so no more than these are asked for.
 const LINES: usize = 10000;
@@ -33,19 +26,11 @@ fn kind_of(rows: &[u64], count: usize, argument: u64) -> Option<u64> {
 }
 
 // A REAL is a short decimal, or bits in hexadecimal; any other kind an integer.
-fn number_in(k: u64, word: &[u8]) -> Written {
+fn number_in(k: u64, word: &[u8]) -> Result<u64, Fault> {
     if k == REAL && byte_at(word, 1) != b'x' {
         return decimal(word);
     }
     integer(word)
-}
-
-// The number, or why there is none.
-fn number_of(written: Written) -> Result<u64, Fault> {
-    match written {
-        Written::Word(number) => Ok(number),
-        Written::Not(fault) => Err(fault),
-    }
 }
 
 // Why a line is not taken.
@@ -74,12 +59,12 @@ fn row_in(line: &[u8], rows: &[u64], count: usize) -> Result<[u64; REPLY_WIDTH],
     } else {
         third.end
     };
-    let argument = number_of(integer(part(line, first.start, first.end)))?;
-    let offset = number_of(integer(part(line, second.start, second.end)))?;
+    let argument = integer(part(line, first.start, first.end))?;
+    let offset = integer(part(line, second.start, second.end))?;
     let Some(kind) = kind_of(rows, count, argument) else {
         return Ok([argument, offset, 0, 0]);
     };
-    let value = number_of(number_in(kind, part(line, third.start, end)))?;
+    let value = number_in(kind, part(line, third.start, end))?;
     Ok([argument, offset, kind, value])
 }
 
@@ -88,13 +73,13 @@ fn is_empty(line: &[u8]) -> bool {
     word.start >= word.end
 }
 
-// Asks for rows, up to an empty line. After one row too many no more is asked for.
+// Asks for rows, up to an empty line; how many words, or nothing where the input's end cuts the reply short. After one row too many no more is asked for.
 pub fn ask_reply(
     rows: &[u64; RESOLVE_WORDS],
     count: usize,
     reply: &mut [u64; REPLY_WORDS],
     view: View,
-) -> Reply {
+) -> Option<usize> {
     let mut row = 0;
     'lines: for _ in 0..LINES {
         if row >= REPLY_ROWS {
@@ -103,7 +88,7 @@ pub fn ask_reply(
         let mut line = [0; LINE];
         let typed = ask(b"reply: ", &mut line, view);
         if typed.ended {
-            return Reply::CutShort;
+            return None;
         }
         let words = typed_line(&line, typed);
         if is_empty(words) {
@@ -118,5 +103,5 @@ pub fn ask_reply(
             Err(fault) => complain(view, fault),
         }
     }
-    Reply::Words(row * REPLY_WIDTH)
+    Some(row * REPLY_WIDTH)
 }

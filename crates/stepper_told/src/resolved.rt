@@ -1,6 +1,6 @@
 // A CALL's resolved arguments, or why it does not resolve.
-use crate::errors::{RESOLVE_WORDS, show_errors};
-use extern_call::rows::{ResolveError, RESOLVED_WIDTH};
+use crate::errors::{Names, RESOLVE_WORDS, show_errors};
+use extern_call::rows::{RESOLVED_WIDTH, ResolveError};
 use stepper_lines::line::{Line, left_out, shown};
 use stepper_lines::quil::complex;
 use stepper_lines::refusal::refused;
@@ -15,20 +15,12 @@ const MEMORY_REFERENCE: u64 = 1;
 // Lines that are shown, unless all are.
 const LINES: usize = 10;
 
-fn resolved(
-    line: Line,
-    source: &[u8],
-    names: &[u64; NAME_WORDS],
-    words: &[u64; RESOLVED_WIDTH],
-) -> Line {
+fn resolved(line: Line, names: Names, words: &[u64; RESOLVED_WIDTH]) -> Line {
     let &[form, first, second, third, _] = words;
     match form {
-        VECTOR => line
-            .name(source, names, first)
-            .with(b' ')
-            .vector(second, third),
+        VECTOR => names.name(line, first).with(b' ').vector(second, third),
         MEMORY_REFERENCE => line
-            .reference(source, names, first, second)
+            .reference(names.source, names.places, first, second)
             .with(b' ')
             .kind(third),
         _ => complex(line, first, second).text(b" as ").kind(third),
@@ -36,43 +28,31 @@ fn resolved(
 }
 
 // The last word says whether it is mutable.
-fn resolved_line(
-    line: Line,
-    source: &[u8],
-    names: &[u64; NAME_WORDS],
-    row: usize,
-    words: &[u64; RESOLVED_WIDTH],
-) -> Line {
+fn resolved_line(line: Line, names: Names, row: usize, words: &[u64; RESOLVED_WIDTH]) -> Line {
     let numbered = line.text(b"  ").number(row as u64).text(b": ");
-    let told = resolved(numbered, source, names, words).whole();
+    let told = resolved(numbered, names, words).whole();
     if words[4] == 1 {
         return told.text(b", mutable");
     }
     told
 }
 
-fn resolved_row(
-    source: &[u8],
-    names: &[u64; NAME_WORDS],
-    view: View,
-    row: usize,
-    words: &[u64; RESOLVED_WIDTH],
-) {
+fn resolved_row(names: Names, view: View, row: usize, words: &[u64; RESOLVED_WIDTH]) {
     let line = Line::new(view);
-    let whole = resolved_line(line, source, names, row, words);
+    let whole = resolved_line(line, names, row, words);
     if whole.fits() {
         whole.end();
     } else {
-        resolved_line(line.shortened(), source, names, row, words).end();
+        resolved_line(line.shortened(), names, row, words).end();
     }
 }
 
 // The resolved arguments, a line each.
-fn show_resolved(source: &[u8], names: &[u64; NAME_WORDS], view: View, rows: &[u64], count: usize) {
+fn show_resolved(names: Names, view: View, rows: &[u64], count: usize) {
     let lines = shown(view, count, LINES);
     let (arguments, _) = rows.as_chunks::<RESOLVED_WIDTH>();
     for (row, words) in arguments.iter().take(lines).enumerate() {
-        resolved_row(source, names, view, row, words);
+        resolved_row(names, view, row, words);
     }
     left_out(view, lines, count, b" more arguments: m, then a, shows all");
 }
@@ -85,17 +65,21 @@ pub fn show_answer(
     rows: &[u64; RESOLVE_WORDS],
     answer: Result<usize, ResolveError>,
 ) -> usize {
+    let names = Names {
+        source,
+        places: names,
+    };
     match answer {
         Ok(count) => {
-            show_resolved(source, names, view, rows, count);
+            show_resolved(names, view, rows, count);
             count
         }
         Err(ResolveError::Errors(count)) => {
-            show_errors(source, names, view, rows, count);
+            show_errors(names, view, rows, count);
             0
         }
-        Err(ResolveError::Refused(number)) => {
-            refused(number, view);
+        Err(ResolveError::Refused(refusal)) => {
+            refused(refusal, view);
             0
         }
     }
