@@ -1,0 +1,76 @@
+#!/usr/bin/env python3
+"""Lists what changed since a commit, old and new one under the other, as docs/DESIGN-PASS-CONTRACTS.md has it.
+
+    python3 tools/sidebyside.py COMMIT > docs/DESIGN-PASS-CONTRACTS.md
+"""
+import re, subprocess, sys
+
+COMMIT = sys.argv[1]
+
+
+def git(*args):
+    return subprocess.run(('git',) + args, capture_output=True, text=True, check=True).stdout
+
+
+def old_files(pattern):
+    return {n: git('show', f'{COMMIT}:{n}') for n in git('ls-tree', '-r', '--name-only', COMMIT).split() if re.fullmatch(pattern, n)}
+
+
+def new_files(pattern):
+    return {n: open(n).read() for n in git('ls-files').split() if re.fullmatch(pattern, n)}
+
+
+def one(text):
+    return ' '.join(text.split()).replace(', )', ')').replace(',)', ')').replace('( ', '(')
+
+
+def rust(files):
+    found = {}
+    for name, text in files.items():
+        crate = name.split('/')[1]
+        text = re.sub(r'//[^\n]*', '', text)
+        for m in re.finditer(r'(?ms)^( *)pub fn (\w+)(.*?)^\1\{\n', text):
+            found[f'{crate} {m.group(2)}'] = one('fn ' + m.group(2) + m.group(3))
+        for m in re.finditer(r'(?ms)^(?:#\[derive\([^\n]*\)\]\n)?(pub (?:struct|enum) \w+.*?^\})', text):
+            n = re.match(r'pub (?:struct|enum) (\w+)', m.group(1)).group(1)
+            found[f'{crate} {n}'] = one(m.group(1))
+        for m in re.finditer(r'(?m)^(pub type (\w+)[^;]*;)', text):
+            found[f'{crate} {m.group(2)}'] = one(m.group(1))
+    return found
+
+
+def antt(files):
+    found = {}
+    for name, text in files.items():
+        crate, module = name.split('/')[1], name.split('/')[-1]
+        text = re.sub(r'(?m)^ *--[^\n]*\n', '', text)
+        text = re.sub(r'(?m)^use [^\n]*\n', '', text)
+        for block in re.split(r'(?m)^(?=(?:  )?(?:abbrev |unfoldable |pub )*(?:pub|data|record)\b)', text):
+            m = re.match(r'\s*(?:abbrev |unfoldable )*(?:pub )?(?:record |data )?([^\s:]+)', block)
+            if m and 'pub ' in block[:40]:
+                found[f'{crate}/specs/{module} {m.group(1)}'] = one(block)
+    return found
+
+
+def tell(title, old, new):
+    changed = [(k, old[k], new[k]) for k in old if k in new and old[k] != new[k]]
+    gone = [(k, old[k]) for k in old if k not in new]
+    come = [(k, new[k]) for k in new if k not in old]
+    print(f'\n## {title}\n')
+    print(f'{len(changed)} changed, {len(gone)} gone, {len(come)} new, {sum(old.get(k) == v for k, v in new.items())} the same.\n')
+    for k, a, b in changed:
+        print(f'- **{k}**\n  - `{a}`\n  - `{b}`')
+    if gone:
+        print('\nGone (docs/DESIGN-PASS.md says what states their promises):\n')
+        for k, a in gone:
+            print(f'- **{k}**: `{a}`')
+    if come:
+        print('\nNew:\n')
+        for k, b in come:
+            print(f'- **{k}**: `{b}`')
+
+
+print('# What changed in signatures, clauses, types and definitions')
+print(f'\nMade by `python3 tools/sidebyside.py {COMMIT}`: old above, new below. docs/DESIGN-PASS.md has the reasons.')
+tell('Public functions and types', rust(old_files(r'crates/[^/]+/src/.*\.rt')), rust(new_files(r'crates/[^/]+/src/.*\.rt')))
+tell('Definitions, claims and theorems of specs/', antt(old_files(r'crates/[^/]+/specs/.*\.antt')), antt(new_files(r'crates/[^/]+/specs/.*\.antt')))
