@@ -17,8 +17,7 @@ fn looked(count: u64, nodes: u64) {
 
 // A line, where the row is a frame of tables that the loader takes; else nothing.
 pub fn looked_line(tables: &[u64], lengths: [usize; TABLES], row: usize) {
-    let current = row_at(table(tables, Table::Instructions, lengths), row);
-    let Current::Row(x) = current else {
+    let Current::Row(x) = row_at(table(tables, Table::Instructions, lengths), row) else {
         return;
     };
     match frame_row(tables, lengths, row) {
