@@ -8,10 +8,7 @@ use stepper_words::heading::Table;
 
 fn resolves(tables: &[u64; TABLE_WORDS], lengths: [usize; TABLES], row: usize) -> bool {
     let mut rows = [0; RESOLVE_WORDS];
-    matches!(
-        resolve_row(tables, lengths, row, &mut rows),
-        Ok(_)
-    )
+    resolve_row(tables, lengths, row, &mut rows).is_ok()
 }
 
 // Whether the row is a CALL that does not resolve.

@@ -1,5 +1,4 @@
 // How long a journal is enough for the desk's program.
-use type_rules::error::ProgramError;
 use crate::length_tables;
 use journal::entries::ENTRY_LIMIT;
 use labels::labels::is_jump;
@@ -7,6 +6,7 @@ use stepper_desk::state::{Desk, Enough};
 use stepper_tables::held::table;
 use stepper_words::heading::Table;
 use tables::rows::{INSTRUCTION_WIDTH, instruction_at};
+use type_rules::error::ProgramError;
 
 fn has_jump(instructions: &[u64]) -> bool {
     let rows = instructions.len() / INSTRUCTION_WIDTH;

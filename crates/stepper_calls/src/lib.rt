@@ -7,8 +7,6 @@ pub mod looked;
 pub mod step;
 pub mod verdict;
 
-use extern_call::rows::ResolveError;
-use type_rules::error::ProgramError;
 use console::access::access;
 use console::check::check;
 use console::frame::{FrameError, frame};
@@ -17,12 +15,15 @@ use console_session::back::back;
 use console_session::forward::forward;
 use console_session::open::open;
 use console_session::run::run;
+use extern_call::rows::ResolveError;
 use journal::position::Position;
 use session::answer::{OpenAnswer, RunAnswer, StepAnswer};
 use session_length::length::journal_length;
 use stepper_tables::file::TABLES;
 use stepper_tables::held::table;
 use stepper_words::heading::Table;
+use tables::refusal::Refusal;
+use type_rules::error::ProgramError;
 
 pub fn check_tables(tables: &[u64], lengths: [usize; TABLES]) -> Result<(), ProgramError> {
     check(

@@ -1,7 +1,7 @@
 // How many nodes of a frame's expression the type check looked at.
-use console::frame::FrameError;
 use crate::frame_row;
-use stepper_desk::current::{Current, row_at};
+use console::frame::FrameError;
+use stepper_desk::current::row_at;
 use stepper_lines::print::{counted, number, text};
 use stepper_tables::file::TABLES;
 use stepper_tables::held::table;
@@ -17,8 +17,7 @@ fn looked(count: u64, nodes: u64) {
 
 // A line, where the row is a frame of tables that the loader takes; else nothing.
 pub fn looked_line(tables: &[u64], lengths: [usize; TABLES], row: usize) {
-    let current = row_at(table(tables, Table::Instructions, lengths), row);
-    let Current::Row(x) = current else {
+    let Some(x) = row_at(table(tables, Table::Instructions, lengths), row) else {
         return;
     };
     match frame_row(tables, lengths, row) {

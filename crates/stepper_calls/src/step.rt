@@ -15,10 +15,9 @@ pub fn forward_with(
 ) -> Desk {
     let words = desk.memory.min(memory.len());
     let entries = desk.journal.min(journal.len());
-    let lengths = desk.lengths;
     let answer = step_forward(
         tables,
-        lengths,
+        desk.lengths,
         &mut memory[..words],
         &mut journal[..entries],
         desk.position,
@@ -39,10 +38,9 @@ pub fn run_key(
     if !is_open(desk) {
         return desk;
     }
-    let lengths = desk.lengths;
     let answer = run_steps(
         tables,
-        lengths,
+        desk.lengths,
         &mut memory[..words],
         &mut journal[..entries],
         desk.position,
@@ -57,10 +55,9 @@ pub fn back_key(tables: &[u64], desk: Desk, memory: &mut [u64], journal: &[u64])
     if !is_open(desk) {
         return desk;
     }
-    let lengths = desk.lengths;
     let answer = step_back(
         tables,
-        lengths,
+        desk.lengths,
         &mut memory[..words],
         &journal[..entries],
         desk.position,

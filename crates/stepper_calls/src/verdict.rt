@@ -16,14 +16,12 @@ pub fn error_lines(tables: &[u64], lengths: [usize; TABLES], error: TypeError) {
 }
 
 pub fn check_key(tables: &[u64], desk: Desk) {
-    let lengths = desk.lengths;
-    let answer = check_tables(tables, lengths);
-    match answer {
+    match check_tables(tables, desk.lengths) {
         Ok(()) => text(b"accepted by the type check\n"),
-        Err(ProgramError::Refused(number)) => refused(number, desk.view),
+        Err(ProgramError::Refused(refusal)) => refused(refusal, desk.view),
         Err(ProgramError::Type(error)) => {
             refused(Refusal::TypeError, desk.view);
-            error_lines(tables, lengths, error)
+            error_lines(tables, desk.lengths, error)
         }
     }
 }
