@@ -7,7 +7,7 @@ program_verdict-requires c = c.requires.loads
 
 pub returns-in_err-program_verdict : goal.returns-in_err-program_verdict
 unfolding open_cells
-returns-in_err-program_verdict c = 
+returns-in_err-program_verdict c =
     let told : c.from_residual.result ≡ Err c.in_err-program_verdict.field-0.0 = search rules in
     rw (sym c.program_verdict.ensures ∙ c.in_err-program_verdict.was, told)
 
