@@ -29,8 +29,9 @@ def rust(files):
     for name, text in files.items():
         crate = name.split('/')[1]
         text = re.sub(r'//[^\n]*', '', text)
-        for m in re.finditer(r'(?ms)^( *)pub fn (\w+)(.*?)^\1\{\n', text):
-            found[f'{crate} {m.group(2)}'] = one('fn ' + m.group(2) + m.group(3))
+        for m in re.finditer(r'(?m)^( *)pub fn (\w+)', text):
+            head = re.match(r'(?s)(.*?)(?: \{\n|\n' + m.group(1) + r'\{\n)', text[m.end():])
+            found[f'{crate} {m.group(2)}'] = one('fn ' + m.group(2) + head.group(1))
         for m in re.finditer(r'(?ms)^(?:#\[derive\([^\n]*\)\]\n)?(pub (?:struct|enum) \w+.*?^\})', text):
             n = re.match(r'pub (?:struct|enum) (\w+)', m.group(1)).group(1)
             found[f'{crate} {n}'] = one(m.group(1))
@@ -39,16 +40,22 @@ def rust(files):
     return found
 
 
+def statement(block):
+    """A lemma's type: what stands before its proof."""
+    lines = block.split('\n')
+    return '\n'.join(lines[:next((i for i, l in enumerate(lines) if i and re.match(r'(?:  )?\S', l) and not re.match(r'(?:  )?[)→]', l)), len(lines))])
+
+
 def antt(files):
     found = {}
     for name, text in files.items():
-        crate, module = name.split('/')[1], name.split('/')[-1]
+        crate = name.split('/')[1]
         text = re.sub(r'(?m)^ *--[^\n]*\n', '', text)
         text = re.sub(r'(?m)^use [^\n]*\n', '', text)
         for block in re.split(r'(?m)^(?=(?:  )?(?:abbrev |unfoldable |pub )*(?:pub|data|record)\b)', text):
             m = re.match(r'\s*(?:abbrev |unfoldable )*(?:pub )?(?:record |data )?([^\s:]+)', block)
             if m and 'pub ' in block[:40]:
-                found[f'{crate}/specs/{module} {m.group(1)}'] = one(block)
+                found[f'{crate}/{name.split("/", 2)[2]} {m.group(1)}'] = one(statement(block) if '/proofs/' in name else block)
     return found
 
 
@@ -74,3 +81,5 @@ print('# What changed in signatures, clauses, types and definitions')
 print(f'\nMade by `python3 tools/sidebyside.py {COMMIT}`: old above, new below. docs/DESIGN-PASS.md has the reasons.')
 tell('Public functions and types', rust(old_files(r'crates/[^/]+/src/.*\.rt')), rust(new_files(r'crates/[^/]+/src/.*\.rt')))
 tell('Definitions, claims and theorems of specs/', antt(old_files(r'crates/[^/]+/specs/.*\.antt')), antt(new_files(r'crates/[^/]+/specs/.*\.antt')))
+LAWS = r'crates/[^/]+/proofs/(?!.*(?:Answers|Invariants|Lib)\.antt).*\.antt'
+tell('Lemmas of proofs/', antt(old_files(LAWS)), antt(new_files(LAWS)))

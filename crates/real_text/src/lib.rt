@@ -3,5 +3,5 @@
 
 pub mod decimal;
 pub mod digits;
-pub mod limbs;
+mod limbs;
 pub mod text;
