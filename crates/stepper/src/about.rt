@@ -5,7 +5,7 @@ use console::references::memory_references;
 use labels::labels::label_row;
 use stepper_calls::access_row;
 use stepper_calls::looked::looked_line;
-use stepper_desk::current::{Current, row_at};
+use stepper_desk::current::row_at;
 use stepper_faults::convert::conversion_of;
 use stepper_faults::fault::Conversion;
 use stepper_lines::line::Line;
@@ -44,8 +44,8 @@ fn walk_on(terminal: &Terminal, walk: Walk, x: Instruction) -> Walk {
             stepped,
             nodes.len(),
         ),
-        Err(number) => {
-            refused(number, line.view);
+        Err(refusal) => {
+            refused(refusal, line.view);
             Walk {
                 line,
                 place: nodes.len(),
@@ -129,7 +129,7 @@ fn about_row(terminal: &Terminal, row: usize, x: Instruction) {
 pub fn about(terminal: &Terminal) {
     let row = terminal.desk.position.row;
     match row_at(terminal.table(Table::Instructions), row) {
-        Current::Row(x) => about_row(terminal, row, x),
-        Current::End => nothing_more(),
+        Some(x) => about_row(terminal, row, x),
+        None => nothing_more(),
     }
 }

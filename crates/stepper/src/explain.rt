@@ -28,7 +28,7 @@ fn bad_call(terminal: &Terminal) -> usize {
 }
 
 // Where open refused the tables, a label, a condition, a conversion or a CALL, with its argument errors where it has some.
-pub fn explain_open(terminal: &Terminal, refusal: u64) {
+pub fn explain_open(terminal: &Terminal, refusal: Refusal) {
     match refusal {
         Refusal::TableShape
         | Refusal::WordNotAllowed

@@ -21,7 +21,7 @@ fn verdict(desk: Desk) {
         State::NoFile => text(b"not read\n"),
         State::Refused(refusal) => {
             text(b"turned down ");
-            number(refusal);
+            number(refusal.number());
             text(b"\n")
         }
     }

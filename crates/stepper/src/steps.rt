@@ -1,5 +1,4 @@
 // What the keys do to the session: open, and forward with a reply.
-use type_rules::error::ProgramError;
 use crate::explain::{explain_open, show_call};
 use crate::terminal::Terminal;
 use journal::position::Position;
@@ -15,19 +14,20 @@ use stepper_desk::state::{JOURNAL_WORDS, MEMORY_WORDS, State};
 use stepper_lines::print::text;
 use stepper_lines::refusal::refused;
 use stepper_told::errors::RESOLVE_WORDS;
-use stepper_told::reply::{REPLY_WORDS, Reply, ask_reply};
+use stepper_told::reply::{REPLY_WORDS, ask_reply};
 use stepper_words::heading::Table;
 use tables::refusal::Refusal;
+use type_rules::error::ProgramError;
 
 // What open answered, in words.
 fn opened(terminal: &Terminal, answer: OpenAnswer) -> State {
     let desk = terminal.desk;
     match answer {
         Ok(_) => State::Opened,
-        Err(ProgramError::Refused(number)) => {
-            refused(number, desk.view);
-            explain_open(terminal, number);
-            State::Refused(number)
+        Err(ProgramError::Refused(refusal)) => {
+            refused(refusal, desk.view);
+            explain_open(terminal, refusal);
+            State::Refused(refusal)
         }
         Err(ProgramError::Type(error)) => {
             refused(Refusal::TypeError, desk.view);
@@ -72,15 +72,15 @@ pub fn reset(terminal: &mut Terminal) {
     }
 }
 
-// The reply where the current row is a CALL.
-fn reply_for(terminal: &Terminal, reply: &mut [u64; REPLY_WORDS]) -> Reply {
+// The words of the reply, none where the current row is no CALL; or nothing, where the input's end cut it short.
+fn reply_for(terminal: &Terminal, reply: &mut [u64; REPLY_WORDS]) -> Option<usize> {
     let row = terminal.desk.position.row;
     if is_call(terminal.table(Table::Instructions), row) {
         let mut rows = [0; RESOLVE_WORDS];
         let count = show_call(terminal, row, &mut rows);
         return ask_reply(&rows, count, reply, terminal.desk.view);
     }
-    Reply::Words(0)
+    Some(0)
 }
 
 pub fn forward_key(terminal: &mut Terminal) {
@@ -89,7 +89,7 @@ pub fn forward_key(terminal: &mut Terminal) {
         return;
     }
     let mut reply = [0; REPLY_WORDS];
-    let Reply::Words(length) = reply_for(terminal, &mut reply) else {
+    let Some(length) = reply_for(terminal, &mut reply) else {
         text(b"no reply, so no step\n");
         return;
     };
