@@ -83,3 +83,11 @@ tell('Public functions and types', rust(old_files(r'crates/[^/]+/src/.*\.rt')), 
 tell('Definitions, claims and theorems of specs/', antt(old_files(r'crates/[^/]+/specs/.*\.antt')), antt(new_files(r'crates/[^/]+/specs/.*\.antt')))
 LAWS = r'crates/[^/]+/proofs/(?!.*(?:Answers|Invariants|Lib)\.antt).*\.antt'
 tell('Lemmas of proofs/', antt(old_files(LAWS)), antt(new_files(LAWS)))
+
+
+def edits(files):
+    return {f'{n.split("/")[1]} {n.split("/")[-1][:-5]}': text.strip().replace('\n', ' ⏎ ') for n, text in files.items()}
+
+
+EDITS = r'crates/[^/]+/must-fail/.*\.edit'
+tell('Must-fail edits', edits(old_files(EDITS)), edits(new_files(EDITS)))
