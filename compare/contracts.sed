@@ -1,12 +1,18 @@
-# Rattle to Rust: drops the contracts and what is said to the checker, spells `let .. else` for older compilers and
-# names Rust's own wrapping functions and its cast to f64.
+# Rattle to Rust: drops the contracts and what is said to the checker, spells `let .. else` and the casts of signs for
+# older compilers, and what std::num alone has in Rust's own words.
 /^ *ghost use /d
+/^ *ghost [a-z_]* = {.*};$/d
 /^ *requires\( [a-z_]*\)\? {.*}$/d
 /^ *ensures\( [a-z_]*\)\? {.*}$/d
 /^ *#!\?\[tactic(.*)\]$/d
 /^#\[derive(Drop)\]$/d
-s/let \([A-Za-z_]*::[A-Za-z_]*\)(_) = \(.*\) else {/if let \1(_) = \2 {} else {/
+/^use std::num::/d
+s/let \([A-Za-z_:]*\)(_) = \(.*\) else {/if let \1(_) = \2 {} else {/
 t
-s/let \([A-Za-z_]*::[A-Za-z_]*\)(\([a-z_, ]*\)) = \(.*\) else {/let (\2) = if let \1(\2) = \3 { (\2) } else {/
-s/std::num::\(wrapping_[a-z]*\)_u64(/u64::\1(/
-s/std::num::nearest_\([iu]64\)_to_f64(/(|n: \1| n as f64)(/
+s/let \([A-Za-z_:]*\)(\(.*\)) = \(.*\) else {/let (\2) = if let \1(\2) = \3 { (\2) } else {/
+s/\([a-z_]*\)\.cast_signed()/(\1 as i64)/g
+s/\([a-z_]*\)\.cast_unsigned()/(\1 as u64)/g
+s/\(std::num::\)\?nearest_\([iu]64\)_to_f64(/(|n: \2| n as f64)(/
+s/\(std::num::\)\?truncating_f64_to_i64(/(|x: f64| x as i64)(/
+s/\(std::num::\)\?f64_from_bits_with_nan(/f64::from_bits(/
+s/\(std::num::\)\?f64_to_bits_with_nan(/(|x: f64| if x.is_nan() { 0x7FF8_0000_0000_0000 } else { x.to_bits() })(/
