@@ -18,7 +18,7 @@ fn write_real(word: u64) {
 
 fn write_short(word: &[u8]) {
     match read_decimal(word) {
-        real_text::decimal::Reading::Word(bits) => {
+        Ok(bits) => {
             io::print_hex(STDOUT_FILENO, bits, 16);
             io::write_all(STDOUT_FILENO, b" ");
             write_real(bits);
@@ -35,7 +35,7 @@ fn write_word(word: &[u8]) {
         return;
     }
     match read_number(word) {
-        script::number::Reading::Number(bits) => write_real(bits),
+        Ok(bits) => write_real(bits),
         _ => write_short(word),
     }
 }
@@ -66,7 +66,7 @@ fn write_converted(way: &[u8], bits: u64) {
 
 fn convert(way: &[u8], word: &[u8]) {
     match read_number(word) {
-        script::number::Reading::Number(bits) => write_converted(way, bits),
+        Ok(bits) => write_converted(way, bits),
         _ => {
             io::write_all(STDOUT_FILENO, b"no number\n");
         }

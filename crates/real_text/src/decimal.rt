@@ -3,10 +3,9 @@ ghost use Rattle.std.specs.Prelude.{◌≤◌};
 
 use reals::real;
 
-// What a text is read as: a REAL word, none, or one that has too many digits or too large a power of ten.
-#[derive(Drop)]
-pub enum Reading {
-    Word(u64),
+// Why a text is not read: it is no decimal, or has too many digits or too large a power of ten.
+#[derive(Clone, Copy, PartialEq, Eq, Debug)]
+pub enum DecimalError {
     NoDecimal,
     TooLong,
 }
@@ -80,10 +79,10 @@ fn pattern_of_tens(n: u32) -> u64
 }
 
 // The number times 10 to the power `up`, by 10 to the power `down`.
-fn scaled(negative: bool, number: u64, up: u64, down: u64) -> Reading {
+fn scaled(negative: bool, number: u64, up: u64, down: u64) -> Result<u64, DecimalError> {
     let distance = up.abs_diff(down);
     if distance > MOST_TENS {
-        return Reading::TooLong;
+        return Err(DecimalError::TooLong);
     }
     let number = pattern_of_number(number);
     let tens = pattern_of_tens(distance as u32);
@@ -92,7 +91,7 @@ fn scaled(negative: bool, number: u64, up: u64, down: u64) -> Reading {
     } else {
         real::divide(number, tens)
     };
-    Reading::Word(if negative { real::negate(size) } else { size })
+    Ok(if negative { real::negate(size) } else { size })
 }
 
 // Whether a minus stands first, and the text after it.
@@ -104,17 +103,17 @@ fn after_minus(text: &[u8]) -> (bool, &[u8]) {
 }
 
 // The exponent's digits begin the text or stand after their sign.
-fn with_exponent(negative: bool, seen: Seen, text: &[u8]) -> Reading {
+fn with_exponent(negative: bool, seen: Seen, text: &[u8]) -> Result<u64, DecimalError> {
     let (down, digits) = match text {
         [b'+', after @ ..] => (false, after),
         _ => after_minus(text),
     };
     let power = Seen::of(digits);
     if !power.is_whole() {
-        return Reading::NoDecimal;
+        return Err(DecimalError::NoDecimal);
     }
     if !power.is_short() || !seen.is_short() {
-        return Reading::TooLong;
+        return Err(DecimalError::TooLong);
     }
     if down {
         let tens = seen.after.wrapping_add(power.number);
@@ -123,18 +122,18 @@ fn with_exponent(negative: bool, seen: Seen, text: &[u8]) -> Reading {
     scaled(negative, seen.number, power.number, seen.after)
 }
 
-pub fn read_decimal(text: &[u8]) -> Reading {
+pub fn read_decimal(text: &[u8]) -> Result<u64, DecimalError> {
     let (negative, size) = after_minus(text);
     let mut parts = size.splitn(2, |byte| matches!(*byte, b'e' | b'E'));
     let seen = Seen::of(parts.next().unwrap_or(&[]));
     if !seen.is_number() {
-        return Reading::NoDecimal;
+        return Err(DecimalError::NoDecimal);
     }
     if let Some(exponent) = parts.next() {
         return with_exponent(negative, seen, exponent);
     }
     if !seen.is_short() {
-        return Reading::TooLong;
+        return Err(DecimalError::TooLong);
     }
     scaled(negative, seen.number, 0, seen.after)
 }

@@ -1,6 +1,6 @@
 // One word of a file, read by its place.
-use real_text::decimal::read_decimal;
-use script::number::read_number;
+use real_text::decimal::{DecimalError, read_decimal};
+use script::number::{NumberError, read_number};
 use stepper_words::place::Place;
 use stepper_words::vocabulary::{is_reserved, number_of, operation_of};
 
@@ -45,19 +45,17 @@ fn is_name(word: &[u8]) -> bool {
 
 // A short decimal as its REAL word.
 pub fn decimal(word: &[u8]) -> Result<u64, Fault> {
-    match read_decimal(word) {
-        real_text::decimal::Reading::Word(bits) => Ok(bits),
-        real_text::decimal::Reading::TooLong => Err(Fault::TooManyDigits),
-        real_text::decimal::Reading::NoDecimal => Err(Fault::NoWord),
-    }
+    read_decimal(word).map_err(|error| match error {
+        DecimalError::TooLong => Fault::TooManyDigits,
+        DecimalError::NoDecimal => Fault::NoWord,
+    })
 }
 
 pub fn integer(word: &[u8]) -> Result<u64, Fault> {
-    match read_number(word) {
-        script::number::Reading::Number(n) => Ok(n),
-        script::number::Reading::Past => Err(Fault::TooLarge),
-        script::number::Reading::NoNumber => Err(Fault::NoWord),
-    }
+    read_number(word).map_err(|error| match error {
+        NumberError::Past => Fault::TooLarge,
+        NumberError::NoNumber => Fault::NoWord,
+    })
 }
 
 // A word that is no number at all says what is needed instead.
