@@ -1,5 +1,5 @@
-# Rattle to Rust: drops the contracts and what is said to the checker, spells `let .. else` and the casts of signs for
-# older compilers, and what std::num alone has in Rust's own words.
+# Rattle to Rust: drops the contracts and what is said to the checker, spells the casts of signs for older compilers and
+# in Rust's own words what std::num has in Rattle alone.
 /^ *ghost use /d
 /^ *ghost [a-z_]* = {.*};$/d
 /^ *requires\( [a-z_]*\)\? {.*}$/d
@@ -7,9 +7,6 @@
 /^ *#!\?\[tactic(.*)\]$/d
 /^#\[derive(Drop)\]$/d
 /^use std::num::/d
-s/let \([A-Za-z_:]*\)(_) = \(.*\) else {/if let \1(_) = \2 {} else {/
-t
-s/let \([A-Za-z_:]*\)(\(.*\)) = \(.*\) else {/let (\2) = if let \1(\2) = \3 { (\2) } else {/
 s/\([a-z_]*\)\.cast_signed()/(\1 as i64)/g
 s/\([a-z_]*\)\.cast_unsigned()/(\1 as u64)/g
 s/\(std::num::\)\?nearest_\([iu]64\)_to_f64(/(|n: \2| n as f64)(/
