@@ -1,4 +1,4 @@
-//! Names and numbers are the core's, whose sources have them as constants, and those of console.h.
+//! Names and numbers are the core's, whose sources have them as constants, of refusals as an enum's cases, and those of console.h.
 use mugwortlatch::{
     sizes, ArithmeticOperator, BinaryOperator, Code, ComparisonOperator, FrameOperator, Kind, Refusal, UnaryOperator,
 };
@@ -39,6 +39,10 @@ fn stands(source: &str, prefix: &str, case: &dyn Debug, word: u64) {
     let name = constant(&format!("{case:?}"));
     let line = format!("pub const {name}: u64 = {word};\n");
     assert!(source.contains(&line), "{line}");
+    listed(prefix, &name, word);
+}
+
+fn listed(prefix: &str, name: &str, word: u64) {
     let entry = format!("CONSOLE_{prefix}_{name} = {word}");
     assert!([",", " ", "\n"].iter().any(|end| HEADER.contains(&format!("{entry}{end}"))), "{entry}");
 }
@@ -112,8 +116,10 @@ fn numbers_of_refusals() {
     // A cause of more than a line is strings one after another in C.
     let header: String = HEADER.split('"').filter(|part| !part.trim().is_empty() || !part.contains('\n')).collect();
     for refusal in refusals {
-        stands(source!("tables/src/refusal.rt"), "REFUSAL", &refusal, refusal.number());
+        let line = format!("    {refusal:?} = {},\n", refusal.number());
+        assert!(source!("tables/src/refusal.rt").contains(&line), "{line}");
         let name = constant(&format!("{refusal:?}"));
+        listed("REFUSAL", &name, refusal.number());
         let told = format!("case CONSOLE_REFUSAL_{name}:\n        return {};\n", refusal.cause());
         assert!(header.contains(&told), "{told}");
     }
