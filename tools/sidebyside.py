@@ -24,6 +24,11 @@ def one(text):
     return ' '.join(text.split()).replace(', )', ')').replace(',)', ')').replace('( ', '(')
 
 
+def put(found, key, value):
+    """Under the key, or, of the second of that name in a crate or a file, under `key (2)`."""
+    found[next(k for k in [key] + [f'{key} ({i})' for i in range(2, 99)] if k not in found)] = value
+
+
 def rust(files):
     found = {}
     for name, text in files.items():
@@ -31,12 +36,14 @@ def rust(files):
         text = re.sub(r'//[^\n]*', '', text)
         for m in re.finditer(r'(?m)^( *)pub fn (\w+)', text):
             head = re.match(r'(?s)(.*?)(?: \{\n|\n' + m.group(1) + r'\{\n)', text[m.end():])
-            found[f'{crate} {m.group(2)}'] = one('fn ' + m.group(2) + head.group(1))
+            put(found, f'{crate} {m.group(2)}', one('fn ' + m.group(2) + head.group(1)))
         for m in re.finditer(r'(?ms)^(?:#\[derive\([^\n]*\)\]\n)?(pub (?:struct|enum) \w+.*?^\})', text):
             n = re.match(r'pub (?:struct|enum) (\w+)', m.group(1)).group(1)
-            found[f'{crate} {n}'] = one(m.group(1))
+            put(found, f'{crate} {n}', one(m.group(1)))
         for m in re.finditer(r'(?m)^(pub type (\w+)[^;]*;)', text):
-            found[f'{crate} {m.group(2)}'] = one(m.group(1))
+            put(found, f'{crate} {m.group(2)}', one(m.group(1)))
+        for m in re.finditer(r'(?ms)^ *(pub const (\w+):.*?;)$', text):
+            put(found, f'{crate} {m.group(2)}', one(m.group(1)))
     return found
 
 
@@ -46,16 +53,29 @@ def statement(block):
     return '\n'.join(lines[:next((i for i, l in enumerate(lines) if i and re.match(r'(?:  )?\S', l) and not re.match(r'(?:  )?[)→]', l)), len(lines))])
 
 
+def flat(text):
+    """What a module in a module holds, as far in as what the outer one holds."""
+    within, lines = [], []
+    for l in text.split('\n'):
+        far = len(l) - len(l.lstrip())
+        while within and l.strip() and far <= within[-1]:
+            within.pop()
+        lines.append(l[2 * len(within):])
+        if re.match('  +module ', l):
+            within.append(far)
+    return '\n'.join(lines)
+
+
 def antt(files):
     found = {}
     for name, text in files.items():
         crate = name.split('/')[1]
         text = re.sub(r'(?m)^ *--[^\n]*\n', '', text)
         text = re.sub(r'(?m)^use [^\n]*\n', '', text)
-        for block in re.split(r'(?m)^(?=(?:  )?(?:abbrev |unfoldable |pub )*(?:pub|data|record)\b)', text):
+        for block in re.split(r'(?m)^(?=(?:  )?(?:abbrev |unfoldable |pub )*(?:pub|data|record)\b)', flat(text)):
             m = re.match(r'\s*(?:abbrev |unfoldable )*(?:pub )?(?:record |data )?([^\s:]+)', block)
             if m and 'pub ' in block[:40]:
-                found[f'{crate}/{name.split("/", 2)[2]} {m.group(1)}'] = one(statement(block) if '/proofs/' in name else block)
+                put(found, f'{crate}/{name.split("/", 2)[2]} {m.group(1)}', one(statement(block) if '/proofs/' in name else block))
     return found
 
 
@@ -79,8 +99,9 @@ def tell(title, old, new):
 
 print('# What changed in signatures, clauses, types and definitions')
 print(f'\nMade by `python3 tools/sidebyside.py {COMMIT}`: old above, new below. docs/DESIGN-PASS.md has the reasons.')
-tell('Public functions and types', rust(old_files(r'crates/[^/]+/src/.*\.rt')), rust(new_files(r'crates/[^/]+/src/.*\.rt')))
-tell('Definitions, claims and theorems of specs/', antt(old_files(r'crates/[^/]+/specs/.*\.antt')), antt(new_files(r'crates/[^/]+/specs/.*\.antt')))
+tell('Public functions, types and constants', rust(old_files(r'crates/[^/]+/src/.*\.rt')), rust(new_files(r'crates/[^/]+/src/.*\.rt')))
+DEFINITIONS = r'crates/[^/]+/specs/(?!Lib\.antt).*\.antt'
+tell('Definitions, claims and theorems of specs/', antt(old_files(DEFINITIONS)), antt(new_files(DEFINITIONS)))
 LAWS = r'crates/[^/]+/proofs/(?!.*(?:Answers|Invariants|Lib)\.antt).*\.antt'
 tell('Lemmas of proofs/', antt(old_files(LAWS)), antt(new_files(LAWS)))
 
