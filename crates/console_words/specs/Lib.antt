@@ -1,2 +1,3 @@
+pub mod NumberedStop
 pub mod Position
 pub mod Ran
