@@ -1,9 +1,10 @@
 # Rattle to Rust: drops the contracts and what is said to the checker, spells the casts of signs for older compilers and
 # in Rust's own words what std::num has in Rattle alone.
 /^ *ghost use /d
-/^ *ghost [a-z_]* = {.*};$/d
+/^ *ghost [a-z_]*\( =\|:\) {.*};$/d
 /^ *requires\( [a-z_]*\)\? {.*}$/d
 /^ *ensures\( [a-z_]*\)\? {.*}$/d
+s/^ *ensures\( [a-z_]*\)\? {.*};$/;/
 /^ *#!\?\[tactic(.*)\]$/d
 /^#\[derive(Drop)\]$/d
 /^use std::num::/d

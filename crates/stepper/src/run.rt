@@ -4,12 +4,14 @@ use crate::terminal::Terminal;
 use std::env::FillError;
 use std::io::IsTerminal;
 use std::rt::{Env, Files};
-use stepper_desk::state::{Desk, State, new_desk};
+use stepper_desk::state::{Desk, JOURNAL_WORDS, MEMORY_WORDS, State, TEXT_BYTES, new_desk};
 use stepper_lines::help::help;
 use stepper_lines::page::page;
 use stepper_lines::print::{number, text};
 use stepper_screen::enough::enough_line;
 use stepper_screen::table_words::table_words;
+use stepper_tables::file::TABLE_WORDS;
+use stepper_words::names::NAME_WORDS;
 
 // The last line tells the verdict to the script that started the program: of an accepted one it is the journal's.
 fn verdict(desk: Desk) {
@@ -27,17 +29,25 @@ fn verdict(desk: Desk) {
     }
 }
 
-// Tells a file's verdict, with nothing cut.
-fn check(rt: &impl Files, path: &[u8], desk: Desk) {
-    let mut terminal = Terminal::new(desk.viewed(desk.view.with_all()));
+// Tells a file's verdict, with nothing cut, or steps it. The terminal is made here and lent from here on: it is large, and handed on by value it is copied.
+fn start(rt: &impl Files, path: &[u8], only_check: bool, desk: Desk) {
+    let mut terminal = Terminal {
+        buffer: [0; TEXT_BYTES],
+        names: [0; NAME_WORDS],
+        tables: [0; TABLE_WORDS],
+        before: [0; MEMORY_WORDS],
+        memory: [0; MEMORY_WORDS],
+        journal: [0; JOURNAL_WORDS],
+        desk: if only_check {
+            desk.viewed(desk.view.with_all())
+        } else {
+            desk
+        },
+    };
     open_file(rt, &mut terminal, path);
-    verdict(terminal.desk);
-}
-
-fn step(rt: &impl Files, path: &[u8], desk: Desk) {
-    let mut terminal = Terminal::new(desk);
-    open_file(rt, &mut terminal, path);
-    if terminal.desk.has_file() {
+    if only_check {
+        verdict(terminal.desk);
+    } else if terminal.desk.has_file() {
         terminal.show();
         text(b"h shows the keys\n");
         turns(rt, &mut terminal);
@@ -55,13 +65,11 @@ fn arguments(rt: &(impl Env + Files), desk: Desk) {
             Err(_) => 0,
         };
         let path = &word[..length];
-        if only_check {
-            check(rt, path, desk);
-            only_check = false;
-        } else if path == b"check".as_slice() {
+        if !only_check && path == b"check".as_slice() {
             only_check = true;
         } else {
-            step(rt, path, desk);
+            start(rt, path, only_check, desk);
+            only_check = false;
         }
     }
     if only_check {

@@ -20,18 +20,6 @@ pub struct Terminal {
 }
 
 impl Terminal {
-    pub fn new(desk: Desk) -> Terminal {
-        Terminal {
-            buffer: [0; TEXT_BYTES],
-            names: [0; NAME_WORDS],
-            tables: [0; TABLE_WORDS],
-            before: [0; MEMORY_WORDS],
-            memory: [0; MEMORY_WORDS],
-            journal: [0; JOURNAL_WORDS],
-            desk,
-        }
-    }
-
     // The file's text.
     pub fn source(&self) -> &[u8] {
         part(&self.buffer, 0, self.desk.text)

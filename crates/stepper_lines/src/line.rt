@@ -89,30 +89,32 @@ impl Line {
         self.text(b"  ")
     }
 
-    // Writes a full line, which then goes on with the byte.
-    fn go_on(self, byte: u8) -> Line {
-        text(&self.bytes);
-        let mut next = self;
-        next.bytes[0] = byte;
-        next.length = 1;
-        next
+    // The byte after what stands there. A full line is written and goes on with it, or is cut.
+    fn push(&mut self, byte: u8) {
+        if self.length < COLUMNS {
+            self.bytes[self.length] = byte;
+            self.length += 1;
+        } else if self.view.all {
+            text(&self.bytes);
+            self.bytes[0] = byte;
+            self.length = 1;
+        } else {
+            self.length = PAST;
+        }
     }
 
     pub fn with(self, byte: u8) -> Line {
-        if self.length < COLUMNS {
-            let mut next = self;
-            next.bytes[self.length] = byte;
-            next.length += 1;
-            return next;
-        }
-        if self.view.all {
-            return self.go_on(byte);
-        }
-        self.cut()
+        let mut line = self;
+        line.push(byte);
+        line
     }
 
     pub fn text(self, bytes: &[u8]) -> Line {
-        bytes.iter().fold(self, |line, byte| line.with(*byte))
+        let mut line = self;
+        for byte in bytes {
+            line.push(*byte);
+        }
+        line
     }
 
     // An item ends here.

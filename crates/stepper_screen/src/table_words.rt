@@ -31,7 +31,8 @@ fn table_rows(tables: &[u64; TABLE_WORDS], which: Table, lengths: [usize; TABLES
     rows(table(tables, which, lengths), which.width());
 }
 
-// The tables of the file that the second argument names.
+// The tables of the file that the second argument names. Not inlined: its room would be taken in every other use of the program too.
+#[inline(never)]
 pub fn table_words(rt: &(impl Env + Files), desk: Desk) {
     let mut path = io::buffer();
     let length = rt.arg(2, &mut path).unwrap_or(0);

@@ -1,7 +1,7 @@
 // The words that stand for numbers, by place, and the words that are no names. A word's number is its place in its list.
 use crate::heading::HEADINGS;
-use crate::list::{find, index_of, line_of};
-use crate::place::{LAST_FAMILY, Place};
+use crate::list::{find, index_of};
+use crate::place::Place;
 use tables::parameter_shape;
 
 pub const KINDS: [u8; 22] = *b"BIT INTEGER OCTET REAL";
@@ -24,9 +24,10 @@ pub const MNEMONICS: [u8; 211] =
 
 // The family and the operator of a mnemonic, in capitals or in any letters.
 pub fn operation_of(word: &[u8], any_case: bool) -> Option<(u64, u64)> {
-    (0..=LAST_FAMILY).find_map(|family| {
-        let operator = find(line_of(&MNEMONICS, family), word, any_case)?;
-        Some((family, operator as u64))
+    let mut families = MNEMONICS.split(|byte| *byte == b'\n').enumerate();
+    families.find_map(|(family, operators)| {
+        let operator = find(operators, word, any_case)?;
+        Some((family as u64, operator as u64))
     })
 }
 

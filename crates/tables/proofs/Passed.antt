@@ -1,5 +1,5 @@
 -- Tests that both hold, and looks that were passed. Assumes nothing.
-use Rattle.std.proofs.Common.{ℕ, Bool, true, false, ◌&&◌, ◌≡◌, refl, sym, ◌∙◌, arith, Ok}
+use Rattle.std.proofs.Common.{ℕ, Bool, true, false, ◌&&◌, ◌≡◌, refl, sym, ap, ◌∙◌, arith, Ok}
 use Rattle.tables.specs.declared.refusal.Refusal.{Refusal}
 use Rattle.tables.specs.Outcome.{Outcome, ◌>>◌, need}
 use Rattle.tables.proofs.FirstLaws.{never}
@@ -24,6 +24,10 @@ unfolding need
 needed true n e = refl
 needed false n e = let z : ◌≡◌ {A = ℕ} 0 1 = cc in absurd (omega arith)
 
--- a callee's answer that was matched: what it says of the definition that the callee meets
+-- a callee's answer that was matched: what it says, read by f, of the definition that the callee meets
+pub seen_by : {A B : Type 0} (f : A → B) {r r' : A} {s : B} → f r ≡ s → r ≡ r' → s ≡ f r'
+seen_by f e g = sym e ∙ ap f g
+
+-- where the answer itself is what is defined
 pub seen : {A : Type 0} {r r' s : A} → r ≡ s → r ≡ r' → s ≡ r'
-seen e g = sym e ∙ g
+seen e g = seen_by (λ x. x) e g

@@ -73,17 +73,20 @@ fn check_tree(regions: &[u64], nodes: &[u64], first: usize, count: usize) -> Tre
     requires { first + count ≤ node_rows nodes.now }
     ensures { result ≡ tree_check regions.now nodes.now first count }
 {
+    let mut looked = 0;
     for place in 0..count {
-        if let Err(error) = should_be_real(regions, node_at(nodes, first + place)) {
+        let judged = should_be_real(regions, node_at(nodes, first + place));
+        looked += 1;
+        if let Err(error) = judged {
             return TreeCheck {
                 verdict: Err((place as u64, error)),
-                looked: place as u64 + 1,
+                looked,
             };
         }
     }
     TreeCheck {
         verdict: Ok(()),
-        looked: count as u64,
+        looked,
     }
 }
 
