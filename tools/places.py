@@ -50,7 +50,7 @@ def enums():
 
 def functions():
     for name, text in SOURCES.items():
-        for m in re.finditer(r'(?ms)^( *)(?:pub(?:\(crate\))? )?(?:extern "C" )?fn (\w+)((?:(?!\bfn ).)*?)(?: |^\1)\{\n(.*?)^\1\}', text):
+        for m in re.finditer(r'(?ms)^( *)(?:pub(?:\(crate\))? )?(?:extern "C" )?fn (\w+)((?:(?!\bfn |;$).)*?)(?: |^\1)\{\n(.*?)^\1\}', text):
             yield name, m.group(2), m.group(3), m.group(4)
 
 

@@ -37,8 +37,8 @@ def rust(files):
         for m in re.finditer(r'(?m)^( *)pub fn (\w+)', text):
             head = re.match(r'(?s)(.*?)(?: \{\n|\n' + m.group(1) + r'\{\n)', text[m.end():])
             put(found, f'{crate} {m.group(2)}', one('fn ' + m.group(2) + head.group(1)))
-        for m in re.finditer(r'(?ms)^(?:#\[derive\([^\n]*\)\]\n)?(pub (?:struct|enum) \w+.*?^\})', text):
-            n = re.match(r'pub (?:struct|enum) (\w+)', m.group(1)).group(1)
+        for m in re.finditer(r'(?ms)^(?:#\[derive\([^\n]*\)\]\n)?(pub (?:struct|enum|trait) \w+.*?^\})', text):
+            n = re.match(r'pub (?:struct|enum|trait) (\w+)', m.group(1)).group(1)
             put(found, f'{crate} {n}', one(m.group(1)))
         for m in re.finditer(r'(?m)^(pub type (\w+)[^;]*;)', text):
             put(found, f'{crate} {m.group(2)}', one(m.group(1)))
