@@ -17,7 +17,8 @@ pub fn show_call(terminal: &Terminal, row: usize, rows: &mut [u64; RESOLVE_WORDS
     show_answer(terminal.source(), &terminal.names, desk.view, rows, answer)
 }
 
-// The first CALL that does not resolve.
+// The first CALL that does not resolve. Not inlined: its room would be taken beside the rows that are shown.
+#[inline(never)]
 fn bad_call(terminal: &Terminal) -> usize {
     let instructions = terminal.table(Table::Instructions);
     first_bad_call(
@@ -27,7 +28,8 @@ fn bad_call(terminal: &Terminal) -> usize {
     )
 }
 
-// Where open refused the tables, a label, a condition, a conversion or a CALL, with its argument errors where it has some.
+// Where open refused the tables, a label, a condition, a conversion or a CALL, with its argument errors where it has some. Not inlined: open would take its room too.
+#[inline(never)]
 pub fn explain_open(terminal: &Terminal, refusal: Refusal) {
     match refusal {
         Refusal::TableShape

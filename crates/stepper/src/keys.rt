@@ -39,7 +39,8 @@ pub fn open_file(rt: &impl Files, terminal: &mut Terminal, path: &[u8]) {
     terminal.before = terminal.memory;
 }
 
-// Keys that tell something of the file.
+// Keys that tell something of the file. Not inlined: the other keys would take the room for a CALL's arguments and sets too.
+#[inline(never)]
 fn file_key(terminal: &Terminal, key: Key) {
     if !terminal.desk.has_file() {
         no_file();
@@ -126,7 +127,8 @@ fn turn(rt: &impl Files, terminal: &mut Terminal) {
     }
 }
 
-// Nothing says that the keys end, so the turns are counted, up to a number that no session uses up.
+// Nothing says that the keys end, so the turns are counted, up to a number that no session uses up. Not inlined: a check would take the keys' room too.
+#[inline(never)]
 pub fn turns(rt: &impl Files, terminal: &mut Terminal) {
     for _ in 0..u64::MAX {
         if !terminal.desk.going {

@@ -54,7 +54,8 @@ fn start(rt: &impl Files, path: &[u8], only_check: bool, desk: Desk) {
     }
 }
 
-// All arguments, one after the other: a file to step, or `check` and a file whose verdict is told. After a last `check` there is no file to read.
+// All arguments, one after the other: a file to step, or `check` and a file whose verdict is told. After a last `check` there is no file to read. Not inlined: the help would take the terminal's room too.
+#[inline(never)]
 fn arguments(rt: &(impl Env + Files), desk: Desk) {
     let mut word = io::buffer();
     let mut only_check = false;

@@ -83,6 +83,8 @@ fn reply_for(terminal: &Terminal, reply: &mut [u64; REPLY_WORDS]) -> Option<usiz
     Some(0)
 }
 
+// Not inlined: the other keys would take a reply's room too.
+#[inline(never)]
 pub fn forward_key(terminal: &mut Terminal) {
     let desk = terminal.desk;
     if !is_open(desk) {
