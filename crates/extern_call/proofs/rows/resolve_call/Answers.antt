@@ -1,10 +1,10 @@
-use Rattle.std.proofs.Common.{rules, Ok, Err}
+use Rattle.std.proofs.Common.{ℕ, ◌≡◌, ap, rules, Ok, Err}
 use Rattle.tables.proofs.Passed.{seen}
 use mathlib.Core.Path.{sym, ◌∙◌}
 use native.Mathlib.Omega.{arith}
 use borrow.Author.Tests.{eq-eqb, ne_eqb, le-leb, lt-leb}
 use Rattle.tables.specs.Outcome.{◌>>=◌, ◌>>◌, need}
-use Rattle.extern_call.specs.Rows.{resolve_call}
+use Rattle.extern_call.specs.Rows.{resolving, resolve_call}
 use Rattle.extern_call.proofs.GatherLaws.{all_stored}
 use Rattle.extern_call.proofs.CallLaws.{call-ranges}
 use Rattle.extern_call.specs.declared.rows.ResolveError.TheVariants.{Errors}
@@ -42,10 +42,13 @@ pub write_resolved-requires : goal.write_resolved-requires
 write_resolved-requires c =
     (record { ranges = call-ranges c.requires (seen c.find_call.ensures c.in_ok-call.was); count = c.if-call-expected_count.false ∙ c.expected_count.ensures }, c.if-rows-call.false)
 
+-- By numbers, so that an edit of the count is refused for the number.
 pub returns-then-all_resolve : goal.returns-then-all_resolve
 unfolding resolve_call ◌>>=◌ ◌>>◌ need
 returns-then-all_resolve c =
-    rw (seen c.find_call.ensures c.in_ok-call.was, eq-eqb _ _ (c.if-call-expected_count.false ∙ c.expected_count.ensures), le-leb _ _ c.if-rows-call.false, sym c.all_resolve.ensures ∙ c.if-all_resolve.true)
+    let told : _ ≡ c.write_resolved.result = omega arith in
+    ap (λ (count : ℕ). resolving (Ok count) c.write_resolved.new.rows) told
+    ∙ rw (seen c.find_call.ensures c.in_ok-call.was, eq-eqb _ _ (c.if-call-expected_count.false ∙ c.expected_count.ensures), le-leb _ _ c.if-rows-call.false, sym c.all_resolve.ensures ∙ c.if-all_resolve.true)
     (all_stored _ _ Ok _ _ _ _ c.write_resolved.ensures)
 
 pub write_errors-requires : goal.write_errors-requires

@@ -1,4 +1,4 @@
-use Rattle.std.proofs.Common.{rules}
+use Rattle.std.proofs.Common.{rules, tests}
 use Rattle.tables.specs.Outcome.{◌>>◌}
 use Rattle.tables.proofs.Passed.{seen}
 use Rattle.session.specs.Prepare.{tables_look}
@@ -8,6 +8,7 @@ pub returns-in_err-load_tables : goal.returns-in_err-load_tables
 unfolding tables_look ◌>>◌
 returns-in_err-load_tables c = rw (seen c.load_tables.ensures c.in_err-load_tables.was) (search rules)
 
+-- By search, so that an edit of the refusal is refused for the refusal.
 pub returns : goal.returns
 unfolding tables_look ◌>>◌
-returns c = rw (seen c.load_tables.ensures c.in_ok-load_tables.was) c.cell_count.ensures
+returns c = rw (seen c.load_tables.ensures c.in_ok-load_tables.was) (search (rules, tests))
